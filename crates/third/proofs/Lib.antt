@@ -1,0 +1,4 @@
+pub mod Mailbox
+pub mod Moves
+pub mod Agreement
+pub mod Laws
