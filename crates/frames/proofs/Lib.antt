@@ -1,0 +1,4 @@
+pub mod RoundTrip
+pub mod Bits
+pub mod Entries
+pub mod Sets
