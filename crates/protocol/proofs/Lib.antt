@@ -1,0 +1,12 @@
+pub mod Places
+pub mod Words
+pub mod Holds
+pub mod Invariant
+pub mod Start
+pub mod Change
+pub mod Pool
+pub mod Crash
+pub mod Deliver
+pub mod Send
+pub mod Turn
+pub mod Guaranteed

@@ -1,0 +1,5 @@
+pub mod Refusals
+pub mod World
+pub mod Calls
+pub mod Tally
+pub mod Guarantee
