@@ -31,6 +31,7 @@ module _ (values : List ℕ) (opening : Opening last values) (H : Heard) where
   Ours v = (q : ℕ) × (q < n) × (getD values q 0 ≡ v)
 
   -- ---- a phase
+  -- the first phase's start
   starts : Start n Ours 0 (run 0)
   unfolding lockstep
   starts = record {
@@ -39,6 +40,7 @@ module _ (values : List ℕ) (opening : Opening last values) (H : Heard) where
     ready = λ p v h r. false≢true (r .0);
   }
 
+  -- round k of phase f: what each step makes of it
   module _ (f k : ℕ) (early : f < 1024) (in-phase : phase k ≡ f) where
     collected : k % 4 ≡ 0 → Start n Ours f (run k) → Collected n Ours f (run (suc k))
     collected step =
@@ -65,6 +67,7 @@ module _ (values : List ℕ) (opening : Opening last values) (H : Heard) where
   round f zero = 4 * f
   round f (suc i) = suc (round f i)
 
+  -- a phase of rounds up to 4,095
   whole-phase : (f : ℕ) → f < 1024 → Start n Ours f (run (round f 0)) → Start n Ours (f + 1) (run (round f 4))
   whole-phase f early s =
       decided f (round f 3) early (omega arith) (omega arith)
@@ -77,6 +80,7 @@ module _ (values : List ℕ) (opening : Opening last values) (H : Heard) where
   resting : (k : ℕ) → 4095 < k → run (suc k) ≡ run k
   resting k late = λ i p. rests values opening H k p late i
 
+  -- a phase of later rounds
   idle-phase : (f : ℕ) → 1024 ≤ f → Start n Ours f (run (round f 0)) → Start n Ours (f + 1) (run (round f 4))
   idle-phase f late s =
       let still : run (round f 4) ≡ run (round f 0) =
@@ -87,6 +91,7 @@ module _ (values : List ℕ) (opening : Opening last values) (H : Heard) where
         ready = s .ready;
       })
 
+  -- every phase starts so
   at-start : (f : ℕ) → Start n Ours f (run (4 * f))
   at-start zero = starts
   at-start (suc f) =

@@ -73,7 +73,7 @@ module _ (n : ℕ) (Ours : ℕ → Type 0) where
     collect-step early step start = record {
       sound = same-sound f S T alike (start .sound);
       committed = λ p v h c. elim (step p h) [ inl e ↦ absurd (start .committed p v h (subst (λ s. Committed s v) e c)) | inr w ↦ w .0 ];
-      ours = λ v c. let w : Vote n f S v = vote v c in subst Ours (w .value) (start .sound .values (w .from) (w .here));
+      ours = λ v c. let w : Vote n S v = vote v c in subst Ours (w .value) (start .sound .values (w .from) (w .here));
       locked = λ v a c x. vote-locked n f S v a early (start .sound .stamps) (vote v c) (same-locked T S a (λ p h. let k = alike p h in (sym (k .0), sym (k .1), sym (k .2))) x);
       ready = λ p v h r. elim (step p h) [
         | inl e ↦ start .ready p v h (subst (λ s. Ready s v) e r)
@@ -84,10 +84,10 @@ module _ (n : ℕ) (Ours : ℕ → Type 0) where
         alike : (p : ℕ) → p < n → Alike (S p) (T p)
         alike p h = elim (step p h) [ inl e ↦ rw e (refl, refl, refl) | inr w ↦ rw (w .3) (refl, refl, refl) ]
 
-        vote : (v : ℕ) → Committed (T (f % n)) v → Vote n f S v
+        vote : (v : ℕ) → Committed (T (f % n)) v → Vote n S v
         vote v c = elim (step (f % n) here) [
           | inl e ↦ absurd (start .committed (f % n) v here (subst (λ s. Committed s v) e c))
-          | inr w ↦ subst (Vote n f S) (subst (λ s. Committed s v) (w .3) c .1) (w .2)
+          | inr w ↦ subst (Vote n S) (subst (λ s. Committed s v) (w .3) c .1) (w .2)
         ]
 
     -- step 1: a locked value stays locked, since what is adopted is that value

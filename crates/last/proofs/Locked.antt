@@ -52,7 +52,7 @@ module _ (n : ℕ) where
   }
 
   -- a vote of a coordinator that hears more than half is every locked value
-  pub vote-locked : (f : ℕ) (S : ℕ → State) (v a : ℕ) → f < 1024 → ((p : ℕ) → p < n → S p .stamp ≤ f) → Vote n f S v → Locked S a → v ≡ a
+  pub vote-locked : (f : ℕ) (S : ℕ → State) (v a : ℕ) → f < 1024 → ((p : ℕ) → p < n → S p .stamp ≤ f) → Vote n S v → Locked S a → v ≡ a
   vote-locked f S v a early stamps vote x =
       let o = overlap n (vote .hears) (λ p. ltb (x .above) (S p .stamp)) (λ p. vote .hears p && ltb (x .above) (S p .stamp)) (λ p _ s t. and-from _ _ s t) in
       let w = witness n (λ p. vote .hears p && ltb (x .above) (S p .stamp)) (omega (arith, o, x .most, vote .most)) in

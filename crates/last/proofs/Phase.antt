@@ -28,8 +28,8 @@ Committed s v = (s .committed ≡ true) × (s .vote ≡ v)
 abbrev pub Ready : State → (v : ℕ) → Type 0
 Ready s v = (s .ready ≡ true) × (s .vote ≡ v)
 
--- n stations with these states, in phase f, whose coordinator is f % n
-module _ (n f : ℕ) (S : ℕ → State) where
+-- n stations with these states
+module _ (n : ℕ) (S : ℕ → State) where
   -- more than half are heard, and v is the value of one of them whose stamp is the largest
   pub record Vote (v : ℕ) : Type 0 where
     pub hears : ℕ → Bool
@@ -39,9 +39,10 @@ module _ (n f : ℕ) (S : ℕ → State) where
     pub value : S from .value ≡ v
     pub largest : (q : ℕ) → q < n → hears q ≡ true → stamped (S q .stamp) ≤ stamped (S from .stamp)
 
-  -- what station p's state becomes in each step
+-- what station p's state becomes in each step of phase f, whose coordinator is f % n
+module _ (n f : ℕ) (S : ℕ → State) where
   abbrev pub Collects : (p : ℕ) → State → Type 0
-  Collects p s = (s ≡ S p) ⊎ ((p ≡ f % n) × (v : ℕ) × Vote v × (s ≡ committed-to v (S p)))
+  Collects p s = (s ≡ S p) ⊎ ((p ≡ f % n) × (v : ℕ) × Vote n S v × (s ≡ committed-to v (S p)))
 
   abbrev pub Adopts : (p : ℕ) → State → Type 0
   Adopts p s = (s ≡ S p) ⊎ ((v : ℕ) × Committed (S (f % n)) v × (s ≡ adopting v (f + 1) (S p)))
@@ -101,7 +102,7 @@ module _ (values : List ℕ) (opening : Opening last values) (H : Heard) where
   votes k p step mine most =
       let w = has-latest (mail k p) (omega arith) in
       let best = wrote k p (w .0) (w .1) (w .2 .there) in
-      let vote : Vote n (phase k) (run k) (w .1 .value) = record {
+      let vote : Vote n (run k) (w .1 .value) = record {
         hears = hears k p;
         most = omega (arith, heard-is k p);
         from = w .0;

@@ -71,16 +71,16 @@ fn phase_of(round: u16) -> u16
 // The coordinator of the round's phase.
 fn coordinator_of(n: usize, round: u16) -> usize
     requires { ⌜ 0 < n ⌝ }
-    ensures is { λ r. ⌜ r ≡ coordinator n round ⌝ }
-    ensures below { λ r. ⌜ r < n ⌝ }
+    ensures value { λ r. ⌜ r ≡ coordinator n round ⌝ }
+    ensures bound { λ r. ⌜ r < n ⌝ }
 {
     phase_of(round) as usize % n
 }
 
 // How many letters a mailbox has.
 fn letters_in(mailbox: &[Option<Letter>]) -> usize
-    ensures is { λ r. ⌜ r ≡ heard (now (mailbox .entry)) ⌝ }
-    ensures few { λ r. ⌜ r ≤ length (now (mailbox .entry)) ⌝ }
+    ensures value { λ r. ⌜ r ≡ heard (now (mailbox .entry)) ⌝ }
+    ensures bound { λ r. ⌜ r ≤ length (now (mailbox .entry)) ⌝ }
 {
     let mut count = 0;
     for place in mailbox {
@@ -250,7 +250,7 @@ pub impl Rule for Last as LastRule {
         state: &State,
         mailbox: &[Option<Letter>],
     ) -> State
-        ensures is { λ r. ⌜ r ≡ last .next n station round (now (state .entry)) (now (mailbox .entry)) ⌝ }
+        ensures value { λ r. ⌜ r ≡ last .next n station round (now (state .entry)) (now (mailbox .entry)) ⌝ }
         ensures votes { λ r. ⌜ Votes-for-latest n station round (now (state .entry)) (now (mailbox .entry)) r ⌝ }
     {
         if is_outside(n, station, round) || mailbox.len() != n {

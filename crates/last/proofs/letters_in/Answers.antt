@@ -16,4 +16,4 @@ loop-place-again c =
 pub returns : need.returns
 returns c =
     let all : c .loop-place .count ≡ heard (c .args .mailbox .now) = c .loop-place .inv .1 ∙ ap heard (take-all _ _ (c .loop-place-test .left)) in
-    record { is = all; few = omega (arith, all, countBy-le-length isSome (c .args .mailbox .now)) }
+    record { value = all; bound = omega (arith, all, countBy-le-length isSome (c .args .mailbox .now)) }

@@ -16,6 +16,6 @@ returns-in-0 c =
     let m = c .args .mailbox .now in
     let accepted : outside 16 n p k ≡ false = sym (c .if-is-outside .ensures tt) in
     let full : length m ≡ n = omega (arith, c .if-mailbox-n .left) in
-    let mine : p ≡ coordinator n k = c .if-coordinates .taken ∙ c .coordinator-of-coordinator .ensures .is in
+    let mine : p ≡ coordinator n k = c .if-coordinates .taken ∙ c .coordinator-of-coordinator .ensures .value in
     let after = collecting n p k (c .args .state .now) m (c .collected .result) (c .collected .ensures) accepted full (c .in-0 .is) mine in
-    record { is = after .0; votes = after .1 }
+    record { value = after .0; votes = after .1 }
