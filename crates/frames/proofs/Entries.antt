@@ -1,5 +1,5 @@
 -- Book entries survive their words, and words their entries but for the low bits. Assumes nothing.
-use mathlib.Core.Path.{_≡_, refl, sym, ap, _∙_}
+use mathlib.Core.Path.{_≡_, sym, ap, _∙_}
 use mathlib.Core.Logic.{inl, inr}
 use mathlib.Core.List.{List}
 use mathlib.Core.Bool.{Bool, true, false, cond, _&&_}
@@ -9,13 +9,13 @@ use native.Mathlib.Omega.{arith}
 use lib.Dec.{ltb, eqb}
 use lib.ListN.{length, getD}
 use Rattle.std.specs.declared.option.Option.{Option}
-use Rattle.std.specs.declared.option.Option.the-variants.{Some, None}
+use Rattle.std.specs.declared.option.Option.the-variants.{Some}
 use Rattle.std.proofs.shelf.Bits.{pow-add, shr-shr}
 use Rattle.std.proofs.shelf.Lists.{getD-past, ext-getD}
 use Rattle.std.proofs.shelf.Tests.{lt-ltb, le-ltb, ltb-true, cases-lt, and-parts}
 use Rattle.rules.specs.Lists.{tabulate}
 use Rattle.rules.proofs.Options.{same-some, only}
-use Rattle.rules.proofs.Tables.{length-tabulate, getD-tabulate}
+use Rattle.rules.proofs.Tables.{getD-tabulate}
 use Rattle.frames.specs.Book.{set-bits, pack-entry, packed-entry, senders-in, read-entry, Entry-back, Entry-again}
 use Rattle.frames.proofs.Bits.{bits-small, parity, bit-at, bits-of}
 

@@ -1,6 +1,5 @@
 -- Whom a book's words name, one word more. Assumes nothing.
 use mathlib.Core.Path.{_≡_, refl, sym, ap, _∙_}
-use mathlib.Core.Logic.{inl, inr}
 use mathlib.Core.List.{List, [], _∷_, _++_}
 use mathlib.Core.Bool.{Bool, true, false, cond, _&&_}
 use Prim.Native.Nat.{ℕ, zero, suc, _-_, _/_, _%_, _^_, _<_}
@@ -8,7 +7,6 @@ use native.Mathlib.Nat.{zero-div}
 use lib.Dec.{ltb, eqb}
 use lib.ListN.{getD, set, replicate}
 use Rattle.std.proofs.shelf.Tests.{lt-ltb, eq-eqb, ne-eqb, and-left, and-right, and-from}
-use Rattle.rules.specs.Lists.{tabulate}
 use Rattle.rules.proofs.Tables.{tabulate-same, tabulate-set, getD-tabulate}
 use Rattle.frames.specs.Book.{senders-in, book-heard, heard-set, heard-sets, hears}
 

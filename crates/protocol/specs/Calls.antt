@@ -31,7 +31,7 @@ use Rattle.protocol.specs.Refusals.{first-refusal}
 use Rattle.protocol.specs.World.{World, blank, station}
 
 -- a refused call leaves everything as it was
-abbrev pub attempt : {A S L : Type 0} → World S L → Option Refusal → A → World S L → Result A Refusal × World S L
+abbrev pub attempt : {A W : Type 0} → W → Option Refusal → A → W → Result A Refusal × W
 attempt w None a after = (Ok a, after)
 attempt w (Some f) a after = (Err f, w)
 

@@ -1,15 +1,13 @@
 -- Recount over a shed's own book gives the states of its stations. Assumes nothing.
-use mathlib.Core.Path.{_≡_, refl, sym, ap, fun-ext, _∙_}
+use mathlib.Core.Path.{_≡_, sym, ap, fun-ext, _∙_}
 use mathlib.Core.Logic.{inl, inr}
 use mathlib.Core.List.{List, _++_, map}
-use mathlib.Core.Bool.{Bool, _||_}
 use Prim.Native.Nat.{ℕ, _+_, _-_, _^_, _<_, _≤_}
 use native.Mathlib.Omega.{arith}
 use lib.Dec.{ltb}
 use lib.ListN.{length, getD, take, replicate, length-replicate}
 use lib.Seq.{take-append-add}
-use Rattle.std.specs.declared.option.Option.{Option}
-use Rattle.std.specs.declared.option.Option.the-variants.{Some, None}
+use Rattle.std.specs.declared.option.Option.the-variants.{None}
 use Rattle.std.specs.declared.result.Result.{Result}
 use Rattle.std.specs.declared.result.Result.the-variants.{Ok}
 use Rattle.std.proofs.shelf.Lists.{take-replicate, take-all, length-map}
@@ -20,14 +18,14 @@ use Rattle.rules.proofs.Tables.{getD-written}
 use Rattle.frames.specs.Book.{book-heard}
 use Rattle.frames.proofs.Sets.{zeros-after}
 use Rattle.protocol.specs.declared.refusal.Refusal.{Refusal}
-use Rattle.protocol.specs.World.{World, station}
-use Rattle.protocol.specs.Calls.{opened, after, refusals}
+use Rattle.protocol.specs.World.{World}
+use Rattle.protocol.specs.Calls.{attempt, opened, after, refusals}
 use Rattle.protocol.specs.Tally.{Triple, start, tally}
 use Rattle.protocol.specs.Guarantee.{Guarantee, entry}
 use Rattle.protocol.proofs.Start.{Opens, opens}
 use Rattle.protocol.proofs.Guaranteed.{guaranteed}
-use Rattle.recount.specs.Recount.{run-refusal, outcome, recounted, Buffers, shortest, recount-call}
-use Rattle.recount.specs.Agreeing.{Own-book, Agrees}
+use Rattle.recount.specs.Recount.{run-refusal, recounted, Buffers, shortest, recount-call}
+use Rattle.recount.specs.Agreeing.{Agrees}
 
 -- of zero words after others, fewer are zero words too
 some-zeros : (m j : ℕ) → (i : ℕ) × (take {A = ℕ} m (replicate j 0) ≡ replicate i 0)
@@ -60,7 +58,7 @@ agrees {S} {L} R face laws values small words round b answer cells call fresh ca
     let limit : round ≤ 4095 = omega (arith, at, g .limited p h) in
     let go : run-refusal (R .most) (length values) (shortest b) (ltb 4095 round) ≡ None = accepts (R .most) (length values) (shortest b) round (o .some) (o .few) long limit in
     let came : _≡_ {A = Result ℕ Refusal × List S} (answer, cells) (Ok round, recounted R values words round (b .states)) =
-    call ∙ ap (λ r. outcome r round (b .states) (recounted R values words round (b .states))) go in
+    call ∙ ap (λ r. attempt (b .states) r round (recounted R values words round (b .states))) go in
     let count : w .entries + own .0 ≡ length (map entry ts) + own .0 = omega (arith, g .entered, length-map ts entry) in
     let j : ℕ = length (opened R fresh values .book) - length ts in
     let book : w .book ≡ map entry ts ++ replicate j 0 = g .recorded in

@@ -8,7 +8,6 @@ use native.Mathlib.Omega.{arith}
 use lib.ListN.{length, getD, take, drop}
 use Rattle.std.specs.declared.option.Option.{Option}
 use Rattle.std.specs.declared.option.Option.the-variants.{Some, None}
-use Rattle.std.specs.declared.result.Result.{Result}
 use Rattle.std.specs.declared.result.Result.the-variants.{Ok}
 use Rattle.rules.specs.Lists.{tabulate, written, put}
 use Rattle.rules.specs.Rule.{Behaviour, Heard, next-state, lockstep}
@@ -18,12 +17,13 @@ use Rattle.rules.proofs.Tables.{tabulate-same, put-table, take-written, getD-wr
 use Rattle.frames.specs.Book.{book-heard, hears, heard-sets}
 use Rattle.frames.proofs.Sets.{sets-hear}
 use Rattle.protocol.specs.declared.refusal.Refusal.{Refusal}
-use Rattle.recount.specs.Recount.{outcome, state-in, state-after, Advances, recounted}
+use Rattle.protocol.specs.Calls.{attempt}
+use Rattle.recount.specs.Recount.{state-in, state-after, Advances, recounted}
 
 -- a call that is not refused
 pub accepted :
     {S : Type 0} (refusal : Option Refusal) (answer : ℕ) (before after cells : List S) → refusal ≡ None → cells ≡ after →
-    (Ok answer, cells) ≡ outcome refusal answer before after
+    (Ok answer, cells) ≡ attempt before refusal answer after
 accepted None answer before after cells e same = ap (λ xs. (Ok answer, xs)) same
 accepted (Some f) answer before after cells e same = none-some (sym e)
 

@@ -6,26 +6,20 @@ use Prim.Native.Nat.{ℕ, suc, _+_, min, _<_}
 use lib.Dec.{ltb, leb, eqb}
 use lib.ListN.{length, getD}
 use Rattle.std.specs.declared.option.Option.{Option}
-use Rattle.std.specs.declared.option.Option.the-variants.{Some, None}
 use Rattle.std.specs.declared.result.Result.{Result}
-use Rattle.std.specs.declared.result.Result.the-variants.{Ok, Err}
 use Rattle.rules.specs.Lists.{written}
 use Rattle.rules.specs.Rule.{Behaviour, Heard, next-state, lockstep}
 use Rattle.frames.specs.Book.{book-heard, hears}
 use Rattle.protocol.specs.declared.refusal.Refusal.{Refusal}
 use Rattle.protocol.specs.declared.refusal.Refusal.the-variants.{ValueCount, BufferMismatch, LastRound}
 use Rattle.protocol.specs.Refusals.{first-refusal}
+use Rattle.protocol.specs.Calls.{attempt}
 
 -- why a run is refused, in checking order: by the rule's most stations and their number, by the shortest buffer, and where
 -- the round is too late
 abbrev pub run-refusal : (most n shortest : ℕ) (late : Bool) → Option Refusal
 run-refusal most n shortest late =
     first-refusal ((eqb n 0 || ltb most n, ValueCount) ∷ (ltb shortest n, BufferMismatch) ∷ (late, LastRound) ∷ [])
-
--- an accepted call answers and leaves the new cells; a refused one answers its refusal and leaves the old ones
-abbrev pub outcome : {S : Type 0} → Option Refusal → ℕ → List S → List S → Result ℕ Refusal × List S
-outcome None answer before after = (Ok answer, after)
-outcome (Some refusal) answer before after = (Err refusal, before)
 
 -- ---- one round
 module _ {S L : Type 0} (R : Behaviour S L) (n : ℕ) where
@@ -40,7 +34,7 @@ module _ {S L : Type 0} (R : Behaviour S L) (n : ℕ) where
   -- what a round answers, and what it leaves in the cells for the states after it: the first n are written
   abbrev pub round-call : ℕ → List (List Bool) → List S → List S → Result ℕ Refusal × List S
   round-call k sets states cells =
-      outcome (run-refusal (R .most) n (min (length states) (length cells)) (leb 4095 k)) (k + 1) cells
+      attempt cells (run-refusal (R .most) n (min (length states) (length cells)) (leb 4095 k)) (k + 1)
       (written n (state-after k sets states) cells)
 
   -- from the lockstep run at round k to the run at the round after it
@@ -69,5 +63,5 @@ shortest b = min (min (length (b .states)) (length (b .scratch))) (length (b .ro
 -- what recount answers, and what it leaves in the first buffer
 abbrev pub recount-call : {S L : Type 0} → Behaviour S L → List ℕ → List ℕ → ℕ → Buffers S L → Result ℕ Refusal × List S
 recount-call R values book round b =
-    outcome (run-refusal (R .most) (length values) (shortest b) (ltb 4095 round)) round (b .states)
+    attempt (b .states) (run-refusal (R .most) (length values) (shortest b) (ltb 4095 round)) round
     (recounted R values book round (b .states))

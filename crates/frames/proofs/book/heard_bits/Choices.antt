@@ -1,5 +1,5 @@
 use mathlib.Core.Path.{_≡_}
-use Prim.Native.Nat.{_+_, _≤_, _^_}
+use Prim.Native.Nat.{_+_, _^_}
 use lib.ListN.{drop}
 use Rattle.frames.specs.Book.{set-bits}
 use Rattle.frames.proofs.book.heard_bits.Given as given
