@@ -1,0 +1,4 @@
+pub mod Of
+pub mod Ages
+pub mod Checks
+pub mod Conduct

@@ -1,0 +1,4 @@
+// The shed and its calls.
+pub mod conduct;
+pub mod shed;
+pub mod table;
