@@ -1,0 +1,16 @@
+pub mod Adding
+pub mod Answered
+pub mod Cutting
+pub mod Filling
+pub mod Judged
+pub mod Lines
+pub mod Listed
+pub mod Numbers
+pub mod Played
+pub mod ReadBack
+pub mod ReadOnly
+pub mod Shares
+pub mod Sizes
+pub mod Steps
+pub mod Values
+pub mod Whole
