@@ -18,8 +18,8 @@ use Rattle.last.specs.Last.{last}
 use Rattle.rules.proofs.Options.{none-some}
 use Rattle.protocol.specs.declared.types.Step.{Step}
 use Rattle.protocol.specs.Calls.{open-refusal}
-use Rattle.shed_core.specs.declared.conduct.Halt.{Halt}
-use Rattle.shed_core.specs.declared.conduct.Halt.the-variants.{Refused, NoMemory}
+use Rattle.conduct.specs.declared.Halt.{Halt}
+use Rattle.conduct.specs.declared.Halt.the-variants.{Refused, NoMemory}
 use Rattle.schedule.specs.declared.types.Fault.{Fault}
 use Rattle.schedule.specs.declared.types.RuleName.{RuleName}
 use Rattle.schedule.specs.declared.types.RuleName.the-variants.{Third, Last}

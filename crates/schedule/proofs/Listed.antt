@@ -21,10 +21,10 @@ use Rattle.protocol.specs.Calls.{look-refusal, after, refusals}
 use Rattle.protocol.specs.Tally.{Triple, start, tally}
 use Rattle.protocol.specs.Guarantee.{Guarantee, entry}
 use Rattle.shed_core.specs.declared.shed.Shed.{Shed}
-use Rattle.shed_core.specs.declared.conduct.Halt.{Halt}
-use Rattle.shed_core.specs.declared.conduct.Halt.the-variants.{Refused, NoMemory}
+use Rattle.conduct.specs.declared.Halt.{Halt}
+use Rattle.conduct.specs.declared.Halt.the-variants.{Refused, NoMemory}
 use Rattle.shed_core.specs.Of.{world}
-use Rattle.shed_core.specs.Conduct.{Carried-out}
+use Rattle.conduct.specs.Conduct.{Carried-out}
 use Rattle.schedule.specs.declared.printer.RefusedStep.{RefusedStep}
 use Rattle.schedule.specs.Printing.{listing-text}
 use Rattle.schedule.specs.Program.{refused-from, sight, sights, begun, over, run-listing, hull-in, hull-at, Lists-one-hull}

@@ -15,8 +15,8 @@ use Rattle.protocol.specs.declared.types.Sight.{Sight}
 use Rattle.protocol.specs.declared.types.Step.{Step}
 use Rattle.protocol.specs.World.{World}
 use Rattle.protocol.specs.Calls.{open-refusal, look-refusal}
-use Rattle.shed_core.specs.declared.conduct.Halt.{Halt}
-use Rattle.shed_core.specs.declared.conduct.Halt.the-variants.{Refused, NoMemory}
+use Rattle.conduct.specs.declared.Halt.{Halt}
+use Rattle.conduct.specs.declared.Halt.the-variants.{Refused, NoMemory}
 use Rattle.schedule.specs.Program.{sights, run-listing, played, new-shed, third-state, third-letter, last-state, last-letter, Lists-one-hull}
 use Rattle.schedule.specs.declared.types.RuleName.{RuleName}
 use Rattle.schedule.specs.declared.types.RuleName.the-variants.{Third, Last}

@@ -5,6 +5,4 @@ pub mod Outcomes
 pub mod Sending
 pub mod Delivering
 pub mod Turning
-pub mod Steps
 pub mod Gather
-pub mod Conducting

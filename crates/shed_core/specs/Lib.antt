@@ -1,4 +1,3 @@
 pub mod Of
 pub mod Ages
 pub mod Checks
-pub mod Conduct

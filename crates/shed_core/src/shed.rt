@@ -11,7 +11,6 @@ mod calls;
 mod checks;
 mod delivery;
 mod opening;
-mod running;
 mod sending;
 mod turning;
 

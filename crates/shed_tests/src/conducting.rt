@@ -1,9 +1,9 @@
 // Lists of steps through conduct.
+use conduct::Halt;
+use conduct::conduct;
 use protocol::refusal::Refusal;
 use protocol::types::Stand;
 use protocol::types::Step;
-use shed_core::conduct::Halt;
-use shed_core::conduct::conduct;
 use std::alloc::Global;
 use std::test::*;
 use third::Letter;

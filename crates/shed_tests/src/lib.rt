@@ -5,6 +5,7 @@ mod conducting;
 // Single calls, among two stations.
 #[cfg(test)]
 mod tests {
+    use conduct::steps::take_step;
     use frames::pool::PoolRefusal;
     use frames::pool::add;
     use frames::pool::frame_at;
@@ -87,7 +88,8 @@ mod tests {
         let mut letters = b.letters;
         let mut pool = b.pool;
         let mut book = b.book;
-        let refusal = shed.step(
+        let refusal = take_step(
+            &mut shed,
             &Third,
             &mut states,
             &mut letters,

@@ -1,14 +1,17 @@
 // A new shed is opened and takes a list of steps.
 ghost use mathlib.Core.Path.{_≡_};
 ghost use Rattle.protocol.specs.World.{shut};
-ghost use Rattle.shed_core.specs.declared.conduct.Halt.the-variants.{Refused, NoMemory};
-ghost use Rattle.shed_core.specs.Conduct.{Conducted};
-use crate::shed::Shed;
+ghost use Rattle.conduct.specs.declared.Halt.the-variants.{Refused, NoMemory};
+ghost use Rattle.conduct.specs.Conduct.{Conducted};
 use protocol::refusal::Refusal;
 use protocol::types::Step;
 use rules::Rule;
+use shed_core::shed::Shed;
 use std::alloc::AllocError;
 use std::alloc::Global;
+use steps::take_steps;
+
+pub mod steps;
 
 // Why nothing was conducted: the shed did not open, or there was no memory for the steps' refusals.
 #[derive(Clone, Copy)]
@@ -54,6 +57,6 @@ pub fn conduct<R: Rule>(
     let mut shed = Shed::new();
     shed.open(rule, states, letters, pool, book, values)?;
     let told = refusals.as_mut_slice();
-    shed.run(rule, states, letters, pool, book, steps, told);
+    take_steps(&mut shed, rule, states, letters, pool, book, steps, told);
     Ok((shed, refusals))
 }

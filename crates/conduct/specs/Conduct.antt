@@ -10,13 +10,13 @@ use Rattle.std.specs.declared.alloc.Global.{Global}
 use Rattle.std.specs.declared.vec.Vec.{Vec}
 use Rattle.std.specs.Of.Vec.{vec-items}
 use Rattle.rules.specs.Rule.{Behaviour}
 use Rattle.shed_core.specs.declared.shed.Shed.{Shed}
-use Rattle.shed_core.specs.declared.conduct.Halt.{Halt}
-use Rattle.shed_core.specs.declared.conduct.Halt.the-variants.{Refused, NoMemory}
+use Rattle.conduct.specs.declared.Halt.{Halt}
+use Rattle.conduct.specs.declared.Halt.the-variants.{Refused, NoMemory}
 use Rattle.protocol.specs.declared.refusal.Refusal.{Refusal}
 use Rattle.protocol.specs.declared.types.Step.{Step}
 use Rattle.protocol.specs.World.{World}
 use Rattle.shed_core.specs.Of.{world}
 use Rattle.protocol.specs.Calls.{open-refusal, opened, after, refusals}
 use Rattle.protocol.specs.Guarantee.{Guarantee}
 

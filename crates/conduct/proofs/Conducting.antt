@@ -10,15 +10,15 @@ use Rattle.std.specs.declared.result.Result.{Result}
 use Rattle.std.specs.declared.result.Result.the-variants.{Ok, Err}
 use Rattle.rules.specs.Rule.{Behaviour, Interface, Laws}
 use Rattle.rules.specs.Lists.{put}
 use Rattle.shed_core.specs.declared.shed.Shed.{Shed}
-use Rattle.shed_core.specs.declared.conduct.Halt.the-variants.{Refused}
+use Rattle.conduct.specs.declared.Halt.the-variants.{Refused}
 use Rattle.protocol.specs.declared.refusal.Refusal.{Refusal}
 use Rattle.protocol.specs.declared.types.Step.{Step}
 use Rattle.protocol.specs.World.{World, shut}
 use Rattle.shed_core.specs.Of.{world, Comes-to, New}
 use Rattle.protocol.specs.Calls.{attempt, open-refusal, open-call, opened, step, after, refusals}
-use Rattle.shed_core.specs.Conduct.{Halted, Carried-out}
+use Rattle.conduct.specs.Conduct.{Halted, Carried-out}
 use Rattle.shed_core.proofs.Outcomes.{same-world}
 use Rattle.protocol.proofs.Guaranteed.{guaranteed}
 
 -- each call of a list has its place in the list of refusals
