@@ -3,15 +3,9 @@
 //! no part of the product and no part of its proof.
 
 pub mod frames;
-pub mod lists;
 pub mod making;
 pub mod recount;
 pub mod rules;
 pub mod schedule;
 pub mod shed;
 pub mod tally;
-pub mod words;
-
-
-#[cfg(feature = "product")]
-pub mod ffi;
