@@ -26,9 +26,13 @@ pub record Triple : Type 0 where
   pub heard : List Bool
 
 pub record Tally : Type 0 where
+  -- each station's round
   pub rounds : ℕ → ℕ
+  -- the letters on their way, as they lie in the pool
   pub slips : List Slip
+  -- by receiver, round and sender: such a letter was delivered in time
   pub notes : Heard
+  -- the finished rounds, in the order of the turns
   pub triples : List Triple
 
 -- whom a station heard in a round, by the first triple for both; nobody if there is none
@@ -36,16 +40,20 @@ abbrev pub heard-in : List Triple → Heard
 heard-in [] p k q = false
 heard-in (t ∷ ts) p k q = cond (eqb (t .station) p && eqb (t .round) k) (getD (t .heard) q false) (heard-in ts p k q)
 
+-- the element at place k is taken out: the last one moves there
 abbrev pub swap-out : {A : Type 0} → A → List A → ℕ → List A
 swap-out z xs k = take (length xs - 1) (set xs k (getD xs (length xs - 1) z))
 
+-- all rounds are 0, and there are no slips, notes or triples
 abbrev pub start : Tally
 start = record { rounds = λ p. 0; slips = []; notes = λ p k q. false; triples = [] }
 
+-- stands past the end of the slips, where no accepted call looks
 abbrev pub nowhere : Slip
 nowhere = record { sender = 0; receiver = 0; round = 0 }
 
 module _ {S L : Type 0} (R : Behaviour S L) (values : List ℕ) where
+  -- the slips of the letters that p writes in its round, to m receivers from q on, by the run over the triples so far
   abbrev pub slips-from : Tally → ℕ → ℕ → ℕ → List Slip
   slips-from t p q zero = []
   slips-from t p q (suc m) =
@@ -53,6 +61,7 @@ module _ {S L : Type 0} (R : Behaviour S L) (values : List ℕ) where
       let rest : List Slip = slips-from t p (suc q) m in
       elim (R .letter (length values) p k (lockstep R values (heard-in (t .triples)) k p) q) [ None ↦ rest | Some l ↦ record { sender = p; receiver = q; round = k } ∷ rest ]
 
+  -- what an accepted call adds
   unfoldable pub tally-accepted : Tally → Step → Tally
   tally-accepted t (Send p) = record { rounds = t .rounds; slips = t .slips ++ slips-from t p 0 (length values); notes = t .notes; triples = t .triples }
   tally-accepted t (Deliver k) =
