@@ -4,15 +4,13 @@ ghost use mathlib.Core.Path.{_≡_};
 ghost use Prim.Native.Nat.{_^_, _<_, _≤_};
 ghost use lib.ListN.{length};
 ghost use Rattle.std.specs.declared.option.Option.the-variants.{Some};
-ghost use Rattle.rules.specs.Rule.{outside};
-ghost use Rattle.last.specs.Last.{last, stamped, counted, phase, coordinator, heard, later, latest, Votes-for-latest, collect, adopt, acknowledge, decide};
+ghost use Rattle.last.specs.Last.{last, stamped, counted, phase, coordinator, later, latest, Votes-for-latest, collect, adopt, acknowledge, decide};
 use rules::Rule;
+use rules::count_letters;
+use rules::is_outside;
 
 // The most stations.
 const MOST: usize = 16;
-
-// The last round that a call may speak of.
-const LAST_ROUND: u16 = 4095;
 
 // The rounds of a phase.
 const STEPS: u16 = 4;
@@ -54,13 +52,6 @@ fn capped(stamp: u16) -> u16
     stamp.min(LAST_STAMP)
 }
 
-// Whether no call speaks of such a station and round.
-fn is_outside(n: usize, station: usize, round: u16) -> bool
-    ensures { λ r. ⌜ r ≡ outside 16 n station round ⌝ }
-{
-    n == 0 || n > MOST || station >= n || round > LAST_ROUND
-}
-
 // The round's phase.
 fn phase_of(round: u16) -> u16
     ensures { λ r. ⌜ r ≡ phase round ⌝ }
@@ -75,20 +66,6 @@ fn coordinator_of(n: usize, round: u16) -> usize
     ensures bound { λ r. ⌜ r < n ⌝ }
 {
     phase_of(round) as usize % n
-}
-
-// How many letters a mailbox has.
-fn letters_in(mailbox: &[Option<Letter>]) -> usize
-    ensures value { λ r. ⌜ r ≡ heard (now (mailbox .entry)) ⌝ }
-    ensures bound { λ r. ⌜ r ≤ length (now (mailbox .entry)) ⌝ }
-{
-    let mut count = 0;
-    for place in mailbox {
-        if place.is_some() {
-            count += 1;
-        }
-    }
-    count
 }
 
 // Of the best letter so far and the next one, each with its sender, the one with the larger stamp; the former in a tie.
@@ -125,7 +102,7 @@ fn collected(n: usize, state: &State, mailbox: &[Option<Letter>]) -> State
     requires { ⌜ length (now mailbox) ≤ 16 ⌝ }
     ensures { λ r. ⌜ r ≡ collect n (now (mailbox .entry)) (now (state .entry)) ⌝ }
 {
-    let reports = letters_in(mailbox);
+    let reports = count_letters(mailbox);
     if 2 * reports > n {
         match latest_letter(mailbox) {
             Some((_, letter)) => State {
@@ -160,7 +137,7 @@ fn acknowledged(n: usize, state: &State, mailbox: &[Option<Letter>]) -> State
     requires { ⌜ length (now mailbox) ≤ 16 ⌝ }
     ensures { λ r. ⌜ r ≡ acknowledge n (now (mailbox .entry)) (now (state .entry)) ⌝ }
 {
-    let confirmations = letters_in(mailbox);
+    let confirmations = count_letters(mailbox);
     if 2 * confirmations > n {
         State {
             ready: true,
@@ -218,7 +195,7 @@ pub impl Rule for Last as LastRule {
         state: &State,
         receiver: usize,
     ) -> Option<Letter> {
-        if is_outside(n, sender, round) || receiver >= n {
+        if is_outside(MOST, n, sender, round) || receiver >= n {
             return None;
         }
         let coordinator = coordinator_of(n, round);
@@ -253,7 +230,7 @@ pub impl Rule for Last as LastRule {
         ensures value { λ r. ⌜ r ≡ last .next n station round (now (state .entry)) (now (mailbox .entry)) ⌝ }
         ensures votes { λ r. ⌜ Votes-for-latest n station round (now (state .entry)) (now (mailbox .entry)) r ⌝ }
     {
-        if is_outside(n, station, round) || mailbox.len() != n {
+        if is_outside(MOST, n, station, round) || mailbox.len() != n {
             return *state;
         }
         let coordinator = coordinator_of(n, round);

@@ -6,9 +6,6 @@ ghost use Rattle.recount.specs.Recount.{run-refusal};
 use protocol::refusal::Refusal;
 use rules::Rule;
 
-// The last round that a station can be in.
-pub const LAST_ROUND: u16 = 4095;
-
 // Whether a run of n stations goes ahead, by the length of the shortest buffer, and unless the round is too late.
 pub fn check<R: Rule>(rule: &R, n: usize, shortest: usize, late: bool) -> Result<(), Refusal>
     ensures { λ r. ⌜ Cases r (λ _. run-refusal (R·Rule .behaviour (now (rule .entry)) .most) n shortest late ≡ None) (λ f. run-refusal (R·Rule .behaviour (now (rule .entry)) .most) n shortest late ≡ Some f) ⌝ }

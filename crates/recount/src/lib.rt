@@ -4,9 +4,9 @@ ghost use mathlib.Core.Bool.{false};
 ghost use Rattle.std.specs.Results.{isOk};
 ghost use Rattle.recount.specs.Recount.{recount-call};
 ghost use Rattle.recount.specs.Agreeing.{Agrees};
-use check::LAST_ROUND;
 use check::check;
 use protocol::refusal::Refusal;
+use rules::LAST_ROUND;
 use rules::Rule;
 use run::run_rounds;
 

@@ -4,9 +4,9 @@ ghost use mathlib.Core.Bool.{true};
 ghost use Rattle.std.specs.Results.{isOk};
 ghost use Rattle.recount.specs.Recount.{round-call, Advances};
 use crate::advance::advance;
-use crate::check::LAST_ROUND;
 use crate::check::check;
 use protocol::refusal::Refusal;
+use rules::LAST_ROUND;
 use rules::Rule;
 
 // Leaves the states of all n stations after the round in the first n cells of `next`, from those before it in the first

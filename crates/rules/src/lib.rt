@@ -1,9 +1,14 @@
 // What every voting rule offers and shows.
 ghost use mathlib.Core.Path.{_≡_};
-ghost use Prim.Native.Nat.{_^_, _<_};
+ghost use Prim.Native.Nat.{_^_, _<_, _≤_};
 ghost use lib.ListN.{length, getD};
+ghost use Rattle.std.specs.Options.{isSome};
+ghost use Rattle.std.specs.shelf.Lists.{countBy};
 ghost use Rattle.rules.specs.Lists.{tabulate, put};
-ghost use Rattle.rules.specs.Rule.{Behaviour, Interface, Laws, Mailbox-room};
+ghost use Rattle.rules.specs.Rule.{Behaviour, Interface, Laws, Mailbox-room, outside};
+
+// The last round that a station can be in.
+pub const LAST_ROUND: u16 = 4095;
 
 // A voting rule: stations that write each other letters, round by round, until they show a hull. A caller knows it by its
 // `behaviour`, by the interface and the laws that this keeps, and by nothing more. The answers depend on the arguments
@@ -81,4 +86,26 @@ pub fn first_states<R: Rule>(rule: &R, values: &[u16], states: &mut [R::State])
             states[station] = rule.first(values.len(), station, *value);
         }
     }
+}
+
+// Whether no call speaks of such a station: there are none or too many, none has that number, or the round is past the
+// last.
+pub fn is_outside(most: usize, n: usize, station: usize, round: u16) -> bool
+    ensures { λ r. ⌜ r ≡ outside most n station round ⌝ }
+{
+    n == 0 || n > most || station >= n || round > LAST_ROUND
+}
+
+// How many letters a mailbox has.
+pub fn count_letters<L>(mailbox: &[Option<L>]) -> usize
+    ensures value { λ r. ⌜ r ≡ countBy isSome (now (mailbox .entry)) ⌝ }
+    ensures bound { λ r. ⌜ r ≤ length (now (mailbox .entry)) ⌝ }
+{
+    let mut count = 0;
+    for letter in mailbox {
+        if letter.is_some() {
+            count += 1;
+        }
+    }
+    count
 }

@@ -5,11 +5,10 @@ ghost use Prim.Native.Nat.{ℕ, _≤_};
 ghost use lib.ListN.{length, getD};
 ghost use Rattle.std.specs.declared.option.Option.the-variants.{None};
 ghost use Rattle.rules.specs.Rule.{outside};
-ghost use Rattle.third.specs.Third.{third, heard, occurs, times, before, most-frequent, quorum-value, Moves};
+ghost use Rattle.third.specs.Third.{third, occurs, times, before, most-frequent, quorum-value, Moves};
 use rules::Rule;
-
-// The last round that a rule speaks of.
-const LAST_ROUND: u16 = 4095;
+use rules::count_letters;
+use rules::is_outside;
 
 // A station's state: the value that it votes for, and the hull that it shows.
 #[derive(Clone, Copy)]
@@ -22,20 +21,6 @@ pub struct State {
 #[derive(Clone, Copy)]
 pub struct Letter {
     pub value: u16,
-}
-
-// How many letters there are.
-fn count_letters(mailbox: &[Option<Letter>]) -> usize
-    ensures value { λ r. ⌜ r ≡ heard (now (mailbox .entry)) ⌝ }
-    ensures bound { λ r. ⌜ r ≤ length (now (mailbox .entry)) ⌝ }
-{
-    let mut count = 0;
-    for letter in mailbox {
-        if letter.is_some() {
-            count += 1;
-        }
-    }
-    count
 }
 
 // How many letters have the value.
@@ -140,7 +125,7 @@ pub impl Rule for Third as ThirdRule {
         state: &State,
         receiver: usize,
     ) -> Option<Letter> {
-        if n == 0 || n > Self::MAX_STATIONS || sender >= n || round > LAST_ROUND || receiver >= n {
+        if is_outside(Self::MAX_STATIONS, n, sender, round) || receiver >= n {
             return None;
         }
         Some(Letter { value: state.value })
@@ -157,12 +142,7 @@ pub impl Rule for Third as ThirdRule {
         ensures value { λ r. ⌜ r ≡ third .next n station round (now (state .entry)) (now (mailbox .entry)) ⌝ }
         ensures moves { λ r. ⌜ (outside 16 n station round ≡ false → length (now (mailbox .entry)) ≡ n → Moves n (now (state .entry)) (now (mailbox .entry)) r) ⌝ }
     {
-        if n == 0
-            || n > Self::MAX_STATIONS
-            || station >= n
-            || round > LAST_ROUND
-            || mailbox.len() != n
-        {
+        if is_outside(Self::MAX_STATIONS, n, station, round) || mailbox.len() != n {
             return *state;
         }
         let counts = count_each(mailbox);

@@ -5,10 +5,8 @@ use crate::shed::Shed;
 use protocol::refusal::Refusal;
 use protocol::types::Record;
 use protocol::types::Stand;
+use rules::LAST_ROUND;
 use rules::Rule;
-
-// No station turns in this round.
-const LAST_ROUND: u16 = 4095;
 
 impl Shed {
     // The shed is open; no buffer is too short, and the pool and the book have the lengths that they had at opening.
