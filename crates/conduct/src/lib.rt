@@ -1,4 +1,6 @@
 // A new shed is opened and takes a list of steps.
+#![tactic(auto)]
+
 ghost use Rattle.std.specs.Prelude.{◌≡◌};
 ghost use Rattle.protocol.specs.World.{shut};
 ghost use Rattle.conduct.specs.declared.Halt.TheVariants.{Refused, NoMemory};

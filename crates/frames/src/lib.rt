@@ -1,4 +1,6 @@
 // Frames, the pool's words and book entries: what the shed keeps as words of 64 bits.
+#![tactic(auto)]
+
 pub mod book;
 pub mod frame;
 pub mod index;

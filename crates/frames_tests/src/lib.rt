@@ -1,4 +1,6 @@
 // Examples of frames and book entries as words.
+#![tactic(auto)]
+
 #[cfg(test)]
 mod tests {
     use frames::book::{heard_in_round, pack_entry, read_entry, senders};

@@ -1,5 +1,7 @@
 // LastVoting: in each phase of four rounds a coordinator collects the stations' values and commits to one, the stations
 // adopt it, they acknowledge it, and they decide.
+#![tactic(auto)]
+
 ghost use Rattle.std.specs.Prelude.{◌≡◌, ◌^◌, ◌<◌, ◌≤◌, length, Some};
 ghost use Rattle.last.specs.Last.{last, stamped, counted, phase, coordinator, later, latest, VotesForLatest, collect, adopt, acknowledge, decide};
 ghost use Rattle.last.specs.Laws.{last_interface, last_laws};

@@ -1,4 +1,6 @@
 // LastVoting on examples: its letters, its four steps, its packed numbers, and whole phases.
+#![tactic(auto)]
+
 #[cfg(test)]
 mod tests {
     use last::{Last, Letter, State};

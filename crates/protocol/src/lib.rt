@@ -1,4 +1,6 @@
 // The shed's calls as definitions, the tally, and what holds after every list of calls.
+#![tactic(auto)]
+
 ghost use Rattle.protocol.specs.Guarantee.{Guaranteed};
 
 use rules::Rule;

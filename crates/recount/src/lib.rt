@@ -1,4 +1,6 @@
 // The lockstep run, counted again from the words of a book.
+#![tactic(auto)]
+
 ghost use Rattle.std.specs.Prelude.{◌≡◌, false, is_ok};
 ghost use Rattle.recount.specs.Recount.{recount_call};
 ghost use Rattle.recount.specs.Agreeing.{Agrees};

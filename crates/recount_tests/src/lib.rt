@@ -1,4 +1,6 @@
 // Recount of the book of a small run, one round of it, and what is refused.
+#![tactic(auto)]
+
 #[cfg(test)]
 mod tests {
     use protocol::refusal::Refusal;

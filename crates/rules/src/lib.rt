@@ -1,4 +1,6 @@
 // What every voting rule offers and shows.
+#![tactic(auto)]
+
 ghost use Rattle.std.specs.Prelude.{◌≡◌, ◌^◌, ◌<◌, ◌≤◌, length, is_some, count_by, slice_index};
 ghost use Rattle.rules.specs.Lists.{tabulate, put};
 ghost use Rattle.rules.specs.Rule.{Behaviour, Interface, Laws, MailboxRoom, outside};

@@ -1,4 +1,6 @@
 // From the text of a schedule to what is printed of it: the text's fault, or the listing of the run.
+#![tactic(auto)]
+
 pub mod answer;
 mod line;
 mod listing;

@@ -1,4 +1,6 @@
 // Texts and what is printed of them.
+#![tactic(auto)]
+
 #[cfg(test)]
 mod tests {
     use schedule::answer::answer;

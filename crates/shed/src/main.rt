@@ -1,4 +1,6 @@
 // Reads a schedule from standard input and prints its listing, or its fault.
+#![tactic(auto)]
+
 use schedule::answer::answer;
 use schedule::reader::MAX_BYTES;
 use std::io::{Read, Write};

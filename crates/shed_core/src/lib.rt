@@ -1,3 +1,5 @@
 // The shed and its calls.
+#![tactic(auto)]
+
 pub mod shed;
 pub mod table;

@@ -1,4 +1,6 @@
 // The shed on examples, with the rule third.
+#![tactic(auto)]
+
 #[cfg(test)]
 mod conducting;
 

@@ -1,4 +1,6 @@
 // OneThirdRule: a station that hears more than two thirds of the stations takes the value that it hears most often.
+#![tactic(auto)]
+
 ghost use Rattle.std.specs.Prelude.{◌≡◌, ℕ, ◌≤◌, false, length, None, slice_index, slice_index_or};
 ghost use Rattle.rules.specs.Rule.{outside};
 ghost use Rattle.third.specs.Third.{third, occurs, times, before, most_frequent, quorum_value, Moves};

@@ -1,4 +1,6 @@
 // Examples of OneThirdRule.
+#![tactic(auto)]
+
 #[cfg(test)]
 mod tests {
     use rules::Rule;

@@ -1,4 +1,6 @@
 // The worked examples of the documents, of rules, words and calls, hold of the definitions.
+#![tactic(auto)]
+
 ghost use Rattle.worked.specs.Worked.{WorkedExamples};
 
 pub fn examples_hold() -> u8

@@ -2,7 +2,7 @@ use Rattle.std.proofs.Common.{◌≡◌, ◌+◌, drop, None, sym, ◌∙◌, ad
 use Rattle.std.proofs.lemmas.List.{at_drop_more, at_drop_all}
 use Rattle.last.specs.Last.{latest_from, latest}
 use Rattle.last.proofs.latest_letter.Goals as goal
-use Rattle.last.proofs.latest_letter.Goals.{in-Some, in-default}
+use Rattle.last.proofs.latest_letter.Goals.{in-Some, in_default}
 
 pub loop-sender-preserved : goal.loop-sender-preserved
 loop-sender-preserved c =
@@ -11,7 +11,7 @@ loop-sender-preserved c =
     let more = at_drop_more (latest_from i c.loop-sender.best) m i None c.loop-sender-test.true in
     let again : latest_from (i + 1) c.match-place.best (drop (i + 1) m) ≡ latest m = elim c.match-place.branch [
       | in-Some w ↦ grind (arith, add-one, more)
-      | in-default w ↦ grind (arith, add-one, more)
+      | in_default w ↦ grind (arith, add-one, more)
     ] in
     again
 

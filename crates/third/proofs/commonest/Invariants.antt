@@ -6,4 +6,4 @@ use Rattle.third.proofs.commonest.Given as goal
 abbrev pub invariant-loop-sender : goal.invariant-loop-sender
 invariant-loop-sender l =
     (l.most ≡ occurs l.best l.mailbox) ×
-    (fold (better l.mailbox) l.best (drop l.sender l.mailbox) ≡ most_frequent l.mailbox l.own_val)
+    (fold (better l.mailbox) l.best (drop l.sender l.mailbox) ≡ most_frequent l.mailbox l.own)

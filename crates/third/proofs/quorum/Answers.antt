@@ -4,10 +4,10 @@ use Rattle.std.proofs.lemmas.List.Sums.{count_by-le-length}
 use Rattle.std.proofs.lemmas.Bool.Decides.{nat_tests}
 use Rattle.third.specs.Third.{says, quorum_from, quorum_value}
 use Rattle.third.proofs.quorum.Goals as goal
-use Rattle.third.proofs.quorum.Goals.{in-Some+else-counts-sender, in-default}
+use Rattle.third.proofs.quorum.Goals.{in-Some+else-counts-sender, in_default}
 
-pub overflow-mul-counts : goal.overflow-mul-counts
-overflow-mul-counts c =
+pub overflow_mul-counts : goal.overflow_mul-counts
+overflow_mul-counts c =
     let few = count_by-le-length (says c.in-Some.l.value) c.args.mailbox.now in
     let here = c.requires.1.1 c.loop-sender.sender in
     grind (arith, few, here)
@@ -25,7 +25,7 @@ loop-sender-preserved c =
     let i = c.loop-sender.sender in
     let here = c.requires.1.1 i in
     let more = at_drop_more (quorum_from c.args.n m) m i None c.loop-sender-test.true in
-    let again : quorum_from c.args.n m (drop (i + 1) m) ≡ quorum_value c.args.n m = elim c.match-letter.branch [ in-Some+else-counts-sender w ↦ grind (arith, nat_tests, more, here) | in-default w ↦ grind (arith, more) ] in
+    let again : quorum_from c.args.n m (drop (i + 1) m) ≡ quorum_value c.args.n m = elim c.match-letter.branch [ in-Some+else-counts-sender w ↦ grind (arith, nat_tests, more, here) | in_default w ↦ grind (arith, more) ] in
     again
 
 pub returns : goal.returns

@@ -8,17 +8,17 @@ pub loop-i-preserved : goal.loop-i-preserved
 loop-i-preserved g c =
     let R = g.R.Rule.behaviour c.args.rule.now in
     let w = world c.loop-i.shed c.loop-i.states c.loop-i.letters c.loop-i.pool c.loop-i.book in
-    let last = c.take-step-outcome.new in
+    let last = c.take_step-outcome.new in
     let v = world last.shed last.states last.letters last.pool last.book in
     let i = c.loop-i.i in
     let xs = c.loop-i.outcomes in
-    let x = c.take-step-outcome.result in
+    let x = c.take_step-outcome.result in
     let wrote : c.if-i-outcomes.outcomes ≡ set xs i x = elim c.if-i-outcomes.branch [
       | then-i-outcomes w ↦ w.outcomes-is
       | else-i-outcomes w ↦ w.outcomes-is ∙ written xs i x w.if-i-outcomes.false
     ] in (
-      after_more R w v c.args.calls.now i _ c.loop-i-test.true x c.take-step-outcome.ensures xs _ wrote _ c.loop-i.invariant.0,
-      refusals_more R w v c.args.calls.now i _ c.loop-i-test.true x c.take-step-outcome.ensures xs _ wrote _ c.loop-i.invariant.1,
+      after_more R w v c.args.calls.now i _ c.loop-i-test.true x c.take_step-outcome.ensures xs _ wrote _ c.loop-i.invariant.0,
+      refusals_more R w v c.args.calls.now i _ c.loop-i-test.true x c.take_step-outcome.ensures xs _ wrote _ c.loop-i.invariant.1,
     )
 
 pub returns : goal.returns

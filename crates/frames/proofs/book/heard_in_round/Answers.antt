@@ -9,18 +9,18 @@ loop-place-init c =
     let words = c.args.words.now in
     sym (ap (λ ws. heard_sets ws c.args.round) (drop_all (length words) words (omega arith)) ∙ sets_empty c.args.round)
 
-pub loop-place-preserved-then-round-in-round : goal.loop-place-preserved-then-round-in-round
-loop-place-preserved-then-round-in-round c =
+pub loop-place-preserved-then-round_in-round : goal.loop-place-preserved-then-round_in-round
+loop-place-preserved-then-round_in-round c =
     let words = c.args.words.now in
     let F = λ (ws : List ℕ). heard_sets ws c.args.round in
     let i = c.loop-place.place - 1 in
     let w = get_or words i 0 in
     let next : i + 1 ≡ c.loop-place.place = omega arith in
     let old : c.loop-place.sets ≡ F (drop (i + 1) words) = rw next c.loop-place.invariant in
-    let within : w / 2 ^ 60 < 16 = omega (arith, c.type-inv.words i) in
+    let within : w / 2 ^ 60 < 16 = omega (arith, c.type_inv.words i) in
     let round : (w / 2 ^ 48) % 4096 ≡ c.args.round = omega arith in
     let more : F (drop i words) ≡ set (F (drop (i + 1) words)) (w / 2 ^ 60) (senders_in w) = at_drop_more F words i 0 (omega arith) ∙ sets_named w (drop (i + 1) words) c.args.round within round in
-    let again : set c.loop-place.sets c.station-in.result c.senders_in.result ≡ F (drop i words) = rw (old, c.station-in.ensures, c.senders_in.ensures) (sym more) in
+    let again : set c.loop-place.sets c.station_in.result c.senders_in.result ≡ F (drop i words) = rw (old, c.station_in.ensures, c.senders_in.ensures) (sym more) in
     again
 
 pub loop-place-preserved : goal.loop-place-preserved
@@ -31,7 +31,7 @@ loop-place-preserved c =
     let w = get_or words i 0 in
     let next : i + 1 ≡ c.loop-place.place = omega arith in
     let old : c.loop-place.sets ≡ F (drop (i + 1) words) = rw next c.loop-place.invariant in
-    let passed = sets_passed w (drop (i + 1) words) c.args.round (λ e. c.if-round-in-round.false (c.round-in.ensures ∙ e)) in
+    let passed = sets_passed w (drop (i + 1) words) c.args.round (λ e. c.if-round_in-round.false (c.round_in.ensures ∙ e)) in
     let again : c.loop-place.sets ≡ F (drop i words) = old ∙ sym (at_drop_more F words i 0 (omega arith) ∙ passed) in
     again
 

@@ -5,5 +5,5 @@ use Rattle.frames.proofs.book.read_entry.Goals as goal
 
 pub returns : goal.returns
 returns c =
-    let entry : (c.station-in.result, c.round-in.result, c.senders_in.result) ≡ read_entry c.args.word = cc in
+    let entry : (c.station_in.result, c.round_in.result, c.senders_in.result) ≡ read_entry c.args.word = cc in
     record { entry = entry; packs_again = entry_again c.args.word _ (omega arith) entry }

@@ -14,15 +14,15 @@ returns-then-sender-n g c =
       packs_again = read_packs_again (g.R.Rule.behaviour rule) (g.met.R.Rule.laws rule) c.args.n c.args.word _ (omega arith) (grind (arith, nat_tests));
     }
 
-pub returns-in-err-letter : goal.returns-in-err-letter
+pub returns-in_err-letter : goal.returns-in_err-letter
 unfolding read_frame
-returns-in-err-letter g c =
+returns-in_err-letter g c =
     let rule = c.args.rule.now in
-    let none = c.in-err-letter.was in
+    let none = c.in_err-letter.was in
     record {
-      frame = rw c.from-residual.ensures (grind (arith, nat_tests));
-      readable = rw c.from-residual.ensures (grind (arith, nat_tests));
-      packs_again = read_packs_again (g.R.Rule.behaviour rule) (g.met.R.Rule.laws rule) c.args.n c.args.word _ (omega arith) (rw c.from-residual.ensures (grind (arith, nat_tests)));
+      frame = rw c.from_residual.ensures (grind (arith, nat_tests));
+      readable = rw c.from_residual.ensures (grind (arith, nat_tests));
+      packs_again = read_packs_again (g.R.Rule.behaviour rule) (g.met.R.Rule.laws rule) c.args.n c.args.word _ (omega arith) (rw c.from_residual.ensures (grind (arith, nat_tests)));
     }
 
 pub returns : goal.returns

@@ -11,8 +11,8 @@ returns-in-0 c =
     let p = c.args.station in
     let k = c.args.round in
     let m = c.args.mailbox.now in
-    let accepted : outside 16 n p k ≡ false = sym c.if-is-outside.ensures in
+    let accepted : outside 16 n p k ≡ false = sym c.if-is_outside.ensures in
     let full : length m ≡ n = omega (arith, c.if-mailbox-n.false) in
-    let mine : p ≡ coordinator n k = c.if-coordinates.true ∙ c.coordinator-of-coordinator.ensures.value in
+    let mine : p ≡ coordinator n k = c.if-coordinates.true ∙ c.coordinator_of-coordinator.ensures.value in
     let after = collecting n p k c.args.state.now m c.collected.result c.collected.ensures accepted full c.in-0.is mine in
     record { value = after.0; votes = after.1 }

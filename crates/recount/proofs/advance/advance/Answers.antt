@@ -4,15 +4,15 @@ use Rattle.recount.specs.Recount.{state_after}
 use Rattle.recount.proofs.advance.advance.Goals as goal
 
 -- the mailbox is small enough for a slice
-pub whole-as-slice·next-of : goal.whole-as-slice·next-of
-whole-as-slice·next-of g c = g.met.R.Rule.room
+pub whole-as_slice·next_of : goal.whole-as_slice·next_of
+whole-as_slice·next_of g c = g.met.R.Rule.room
 
 pub loop-station-preserved : goal.loop-station-preserved
 loop-station-preserved g c =
     let i = c.loop-station.station in
     let f = state_after (g.R.Rule.behaviour c.args.rule.now) c.args.n c.args.round c.args.heard.now c.args.states.now in
-    let value : c.next-of.result ≡ f i = c.next-of.ensures in
-    written_more i f c.args.next.now c.loop-station.next c.next-of.result c.loop-station.invariant (omega arith) value
+    let value : c.next_of.result ≡ f i = c.next_of.ensures in
+    written_more i f c.args.next.now c.loop-station.next c.next_of.result c.loop-station.invariant (omega arith) value
 
 pub returns : goal.returns
 returns g c =

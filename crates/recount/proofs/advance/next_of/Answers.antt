@@ -13,7 +13,7 @@ returns g c =
     let states = c.args.states.now in
     let within : p < length states = omega arith in
     let state = get_or_read states p _ within c.index-states-station.is (R.first n p 0) in
-    let letters : take n c.fill-mailbox.new.letters ≡ mailbox R n p k (λ q. get_or c.args.heard.now q false) (state_in R n states) = c.fill-mailbox.ensures in
-    let front = c.split-at.ensures.front in
+    let letters : take n c.fill_mailbox.new.letters ≡ mailbox R n p k (λ q. get_or c.args.heard.now q false) (state_in R n states) = c.fill_mailbox.ensures in
+    let front = c.split_at.ensures.front in
     let own = c.next.ensures in
     cc

@@ -11,7 +11,7 @@ returns g c =
     let k = c.args.round in
     let states = c.args.states.now in
     let cells = c.args.next.now in
-    let fine : run_refusal R.most n (min (length states) (length cells)) (leb 4095 k) ≡ None = sym (ap (λ m. run_refusal R.most n m (leb 4095 k)) c.min-shortest.ensures) ∙ c.in-ok-check.ensures in
+    let fine : run_refusal R.most n (min (length states) (length cells)) (leb 4095 k) ≡ None = sym (ap (λ m. run_refusal R.most n m (leb 4095 k)) c.min-shortest.ensures) ∙ c.in_ok-check.ensures in
     let after = c.advance.ensures in
     record {
       call = accepted (run_refusal R.most n (min (length states) (length cells)) (leb 4095 k)) (k + 1) cells (written n (state_after R n k c.args.heard.now states) cells) c.advance.new.next fine after;

@@ -5,13 +5,13 @@ use Rattle.recount.proofs.run.run_rounds.Goals as goal
 
 pub loop-k-init : goal.loop-k-init
 loop-k-init g c =
-    run_none (g.R.Rule.behaviour c.args.rule.now) c.args.values.now c.args.book.now c.args.states.now c.first-states.new.states c.requires.1.0 c.first-states.ensures
+    run_none (g.R.Rule.behaviour c.args.rule.now) c.args.values.now c.args.book.now c.args.states.now c.first_states.new.states c.requires.1.0 c.first_states.ensures
 
 pub loop-k-preserved : goal.loop-k-preserved
 loop-k-preserved g c =
     run_more (g.R.Rule.behaviour c.args.rule.now) c.args.values.now c.args.book.now
-    c.loop-k.k c.heard-in-round-heard.result c.first-states.new.states c.loop-k.states c.loop-k.scratch c.advance.new.next c.copy-front.new.to
-    c.requires.0 c.loop-k.invariant (c.heard-in-round-heard.ensures c.args.book.now c.of-index.ensures) c.advance.ensures c.copy-front.ensures
+    c.loop-k.k c.heard_in_round-heard.result c.first_states.new.states c.loop-k.states c.loop-k.scratch c.advance.new.next c.copy_front.new.to
+    c.requires.0 c.loop-k.invariant (c.heard_in_round-heard.ensures c.args.book.now c.of-index.ensures) c.advance.ensures c.copy_front.ensures
 
 pub returns : goal.returns
 returns g c =
@@ -20,5 +20,5 @@ returns g c =
     let book = c.args.book.now in
     let last : c.loop-k.k ≡ c.args.round = omega arith in
     c.loop-k.invariant
-    ∙ run_over R values book c.loop-k.k c.args.states.now c.first-states.new.states c.requires.1.0 c.first-states.ensures
+    ∙ run_over R values book c.loop-k.k c.args.states.now c.first_states.new.states c.requires.1.0 c.first_states.ensures
     ∙ ap (λ k. recounted R values book k c.args.states.now) last

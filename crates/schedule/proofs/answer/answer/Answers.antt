@@ -26,6 +26,6 @@ returns-in-Faulty c =
     let f = c.in-Faulty.fault in
     let read = subst (λ e. Reads text (Err e)) c.in-Faulty.is c.in-Err.ensures.reads in
     record {
-      prints = IfOk-weaker c.fault-listing.result (λ v. vec_items v ≡ fault_listing_text f) (λ v. vec_items v ≡ printed text) (λ v. prints_fault text (vec_items v) f read) c.fault-listing.ensures;
-      safely = IfOk-weaker c.fault-listing.result (λ v. vec_items v ≡ fault_listing_text f) (λ v. PrintedSafely text (vec_items v)) (λ v. safe_fault text (vec_items v) f read) c.fault-listing.ensures;
+      prints = IfOk-weaker c.fault_listing.result (λ v. vec_items v ≡ fault_listing_text f) (λ v. vec_items v ≡ printed text) (λ v. prints_fault text (vec_items v) f read) c.fault_listing.ensures;
+      safely = IfOk-weaker c.fault_listing.result (λ v. vec_items v ≡ fault_listing_text f) (λ v. PrintedSafely text (vec_items v)) (λ v. safe_fault text (vec_items v) f read) c.fault_listing.ensures;
     }

@@ -17,7 +17,7 @@ loop-step-preserved c =
     let step = get_or refused i none in
     let text = refusal_text step.line step.refusal in
     let more : refusals_text (drop i refused) ≡ ended text ++ refusals_text (drop (i + 1) refused) = at_drop_more refusals_text refused i none c.loop-step-test.true in
-    let added : vec_items c.add.new.out ≡ before ++ ended text = c.in-ok-add.ensures ∙ ap (λ t. before ++ t) (shows c.refusal-line-line.result text c.refusal-line-line.ensures) in
+    let added : vec_items c.add.new.out ≡ before ++ ended text = c.in_ok-add.ensures ∙ ap (λ t. before ++ t) (shows c.refusal_line-line.result text c.refusal_line-line.ensures) in
     one_part before _ (ended text) (refusals_text (drop (i + 1) refused)) _ added (ap (λ t. before ++ t) (sym more) ∙ c.loop-step.invariant)
 
 pub returns : goal.returns

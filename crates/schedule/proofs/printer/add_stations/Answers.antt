@@ -21,7 +21,7 @@ loop-station-preserved c =
     let text = station_text i sight (reception_of n i book) in
     let rest = stations_from n book (i + 1) (drop (i + 1) stations) in
     let more : stations_from n book i (drop i stations) ≡ ended text ++ rest = at_drop_more (stations_from n book i) stations i none c.loop-station-test.true ∙ ap (λ p. ended text ++ stations_from n book p (drop (i + 1) stations)) (sym (add-one i)) in
-    let added : vec_items c.add.new.out ≡ before ++ ended text = c.in-ok-add.ensures ∙ ap (λ t. before ++ t) (shows c.station-line-line.result (station_text i sight c.reception-air.result) c.station-line-line.ensures) ∙ ap (λ a. before ++ ended (station_text i sight a)) c.reception-air.ensures.is in
+    let added : vec_items c.add.new.out ≡ before ++ ended text = c.in_ok-add.ensures ∙ ap (λ t. before ++ t) (shows c.station_line-line.result (station_text i sight c.reception-air.result) c.station_line-line.ensures) ∙ ap (λ a. before ++ ended (station_text i sight a)) c.reception-air.ensures.is in
     one_part before _ (ended text) rest _ added (ap (λ t. before ++ t) (sym more) ∙ c.loop-station.invariant)
 
 pub returns : goal.returns

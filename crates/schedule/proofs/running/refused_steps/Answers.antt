@@ -3,7 +3,7 @@ use Rattle.std.proofs.lemmas.List.{at_drop_all}
 use Rattle.schedule.specs.Program.{refused_from}
 use Rattle.schedule.proofs.Played.{refused_not, refused_more}
 use Rattle.schedule.proofs.running.refused_steps.Goals as goal
-use Rattle.schedule.proofs.running.refused_steps.Goals.{in-Some+in-ok-push, in-default}
+use Rattle.schedule.proofs.running.refused_steps.Goals.{in-Some+in_ok-push, in_default}
 
 pub loop-i-preserved : goal.loop-i-preserved
 loop-i-preserved c =
@@ -11,8 +11,8 @@ loop-i-preserved c =
     let i = c.loop-i.i in
     let whole = refused_from 3 refusals in
     elim c.match-outcome.branch [
-      | in-Some+in-ok-push w ↦ refused_more refusals i c.loop-i-test.true (vec_items c.loop-i.refused) whole c.loop-i.invariant w.in-Some.refusal (vec_items c.match-outcome.refused) w.in-Some.is (ap vec_items w.refused-is ∙ w.in-ok-push.ensures.items)
-      | in-default w ↦ ap (λ v. vec_items v ++ refused_from (i + 1 + 3) (drop (i + 1) refusals)) w.refused-is ∙ refused_not refusals i c.loop-i-test.true (vec_items c.loop-i.refused) whole c.loop-i.invariant w.in-default.is
+      | in-Some+in_ok-push w ↦ refused_more refusals i c.loop-i-test.true (vec_items c.loop-i.refused) whole c.loop-i.invariant w.in-Some.refusal (vec_items c.match-outcome.refused) w.in-Some.is (ap vec_items w.refused-is ∙ w.in_ok-push.ensures.items)
+      | in_default w ↦ ap (λ v. vec_items v ++ refused_from (i + 1 + 3) (drop (i + 1) refusals)) w.refused-is ∙ refused_not refusals i c.loop-i-test.true (vec_items c.loop-i.refused) whole c.loop-i.invariant w.in_default.is
     ]
 
 pub returns : goal.returns

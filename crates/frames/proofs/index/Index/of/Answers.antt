@@ -17,7 +17,7 @@ loop-i-preserved c =
     let next : c.loop-i.i ≡ i + 1 = omega arith in
     let more : drop i book ≡ w ∷ drop (i + 1) book = at_drop_more (λ (ws : List ℕ). ws) book i 0 (omega arith) in
     let old : Indexes c.loop-i.words (drop (i + 1) book) = subst (λ (j : ℕ). Indexes c.loop-i.words (drop j book)) next c.loop-i.invariant in
-    subst (Indexes (set c.loop-i.words (w / 2 ^ 48) w)) (sym more) (indexed_more c.loop-i.words (drop (i + 1) book) w (omega (arith, c.type-inv.book i)) old)
+    subst (Indexes (set c.loop-i.words (w / 2 ^ 48) w)) (sym more) (indexed_more c.loop-i.words (drop (i + 1) book) w (omega (arith, c.type_inv.book i)) old)
 
 pub returns : goal.returns
 returns c =

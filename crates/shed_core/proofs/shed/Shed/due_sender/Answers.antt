@@ -4,5 +4,5 @@ use Rattle.shed_core.proofs.shed.Shed.due_sender.Goals as goal
 
 pub returns-then-held-station : goal.returns-then-held-station
 returns-then-held-station c =
-    let was = ap (λ r. r.hold) (sym c.record-station.ensures) ∙ c.in-ok-held.was in
-    record { sender = grind (arith, nat_tests); below = c.args.self.now.held c.args.p c.in-ok-held.held was }
+    let was = ap (λ r. r.hold) (sym c.record-station.ensures) ∙ c.in_ok-held.was in
+    record { sender = grind (arith, nat_tests); below = c.args.self.now.held c.args.p c.in_ok-held.held was }

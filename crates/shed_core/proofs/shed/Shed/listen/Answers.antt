@@ -3,19 +3,19 @@ use Rattle.protocol.specs.declared.types.Held.{Held}
 use Rattle.shed_core.proofs.Stations.{rounds_kept, holds_kept}
 use Rattle.rules.proofs.Options.{none_some}
 use Rattle.shed_core.proofs.shed.Shed.listen.Goals as goal
-use Rattle.shed_core.proofs.shed.Shed.listen.Goals.{in-Some, in-default}
+use Rattle.shed_core.proofs.shed.Shed.listen.Goals.{in-Some, in_default}
 
-pub invariant-of-self : goal.invariant-of-self
-invariant-of-self g c =
+pub invariant_of-self : goal.invariant_of-self
+invariant_of-self g c =
     let s = c.args.self.now in
     let p = c.args.p in
-    let round : c.match-due-sender.station.round ≤ 4095 = elim c.match-due-sender.branch [
+    let round : c.match-due_sender.station.round ≤ 4095 = elim c.match-due_sender.branch [
       | in-Some w ↦ rw (w.station-is, c.record-station.ensures) (s.rounds p)
-      | in-default w ↦ rw (w.station-is, c.record-station.ensures) (s.rounds p)
+      | in_default w ↦ rw (w.station-is, c.record-station.ensures) (s.rounds p)
     ] in
-    let hold : (h : Held) → c.match-due-sender.station.hold ≡ Some h → h.sender < s.count = elim c.match-due-sender.branch [
+    let hold : (h : Held) → c.match-due_sender.station.hold ≡ Some h → h.sender < s.count = elim c.match-due_sender.branch [
       | in-Some w ↦ λ h e. none_some (rw w.station-is at e)
-      | in-default w ↦ λ h e. s.held p h (rw (w.station-is, c.record-station.ensures) at e)
+      | in_default w ↦ λ h e. s.held p h (rw (w.station-is, c.record-station.ensures) at e)
     ] in (
       s.few,
       (

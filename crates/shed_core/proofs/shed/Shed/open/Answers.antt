@@ -9,12 +9,12 @@ use Rattle.protocol.proofs.Start.{opens}
 use Rattle.shed_core.proofs.Stations.{new_rounds, new_holds}
 use Rattle.shed_core.proofs.shed.Shed.open.Goals as goal
 
-pub invariant-of-self : goal.invariant-of-self
-invariant-of-self g c =
+pub invariant_of-self : goal.invariant_of-self
+invariant_of-self g c =
     let face = g.met.R.Rule.interface c.args.rule.now in
     let values = c.args.values.now in
     let before = world c.args.self.now c.args.states.now c.args.letters.now c.args.pool.now c.args.book.now in
-    let fine = opens (g.R.Rule.behaviour c.args.rule.now) face before values (sym c.in-default.ensures) in
+    let fine = opens (g.R.Rule.behaviour c.args.rule.now) face before values (sym c.in_default.ensures) in
     let few : length values ≤ 16 = omega (arith, fine.few, face.most_few) in
     (few, (omega arith, (omega arith, (new_rounds _ c.new.ensures, (new_holds _ _ c.new.ensures, tt)))))
 
@@ -26,9 +26,9 @@ returns g c =
     let book = c.args.book.now in
     let states = c.args.states.now in
     let w = world c.args.self.now states c.args.letters.now pool book in
-    let none : open_refusal R w values ≡ None = sym c.in-default.ensures in
+    let none : open_refusal R w values ≡ None = sym c.in_default.ensures in
     let fine = opens R (g.met.R.Rule.interface c.args.rule.now) w values none in
     let first : ℕ → _ = λ (p : ℕ). R.first (length values) p (get_or values p 0) in
     comes (accepted w (length values) (opened R w values) (open_refusal R w values) none) refl
     (same_world refl (ap length c.clear.ensures ∙ length-replicate (length pool) 0) (ap length c.clear-2.ensures ∙ length-replicate (length book) 0) refl refl
-    c.new.ensures (c.first-states.ensures ∙ put_table (length values) first states fine.states) refl c.clear.ensures c.clear-2.ensures)
+    c.new.ensures (c.first_states.ensures ∙ put_table (length values) first states fine.states) refl c.clear.ensures c.clear-2.ensures)

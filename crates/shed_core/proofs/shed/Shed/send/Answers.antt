@@ -5,52 +5,52 @@ use Rattle.shed_core.proofs.Outcomes.{same_world}
 use Rattle.shed_core.proofs.Sending.{send_unready, send_refused, send_full, send_room, send_done, gathered, gathered_many}
 use Rattle.shed_core.proofs.shed.Shed.send.Goals as goal
 
-pub returns-in-err-ready : goal.returns-in-err-ready
-returns-in-err-ready g c =
+pub returns-in_err-ready : goal.returns-in_err-ready
+returns-in_err-ready g c =
     let R = g.R.Rule.behaviour c.args.rule.now in
     let s = c.args.self.now in
     let w = world s c.args.states.now c.args.letters.now c.args.pool.now c.args.book.now in
-    send_unready R w c.args.p c.in-err-ready.field-0.0 c.from-residual.result c.in-err-ready.ensures c.from-residual.ensures.1
+    send_unready R w c.args.p c.in_err-ready.field-0.0 c.from_residual.result c.in_err-ready.ensures c.from_residual.ensures.1
 
-pub returns-in-err-round : goal.returns-in-err-round
-returns-in-err-round g c =
+pub returns-in_err-round : goal.returns-in_err-round
+returns-in_err-round g c =
     let R = g.R.Rule.behaviour c.args.rule.now in
     let s = c.args.self.now in
     let w = world s c.args.states.now c.args.letters.now c.args.pool.now c.args.book.now in
-    send_refused R w c.args.p c.in-ok-ready.ensures.0 c.in-err-round.field-0.0 c.from-residual-in-err-round.result
-    c.in-err-round.ensures c.from-residual-in-err-round.ensures.1
+    send_refused R w c.args.p c.in_ok-ready.ensures.0 c.in_err-round.field-0.0 c.from_residual-in_err-round.result
+    c.in_err-round.ensures c.from_residual-in_err-round.ensures.1
 
-pub returns-in-err-self : goal.returns-in-err-self
-returns-in-err-self g c =
+pub returns-in_err-self : goal.returns-in_err-self
+returns-in_err-self g c =
     let R = g.R.Rule.behaviour c.args.rule.now in
     let s = c.args.self.now in
     let w = world s c.args.states.now c.args.letters.now c.args.pool.now c.args.book.now in
     let p = c.args.p in
-    let ready = c.in-ok-ready.ensures.0 in
-    let fit = c.in-ok-round.ensures.0 in
+    let ready = c.in_ok-ready.ensures.0 in
+    let fit = c.in_ok-round.ensures.0 in
     let words = c.gather-count.result.0 in
     let count = c.gather-count.result.1 in
     let whole : count - 0 ≡ count = omega arith in
     let part : take (count - 0) words ≡ frames_of R w p =
-    rw whole (gathered R w p ready fit c.in-ok-round.field-0 c.index-states-p.result words count c.in-ok-round.ensures.1 c.gather-count.ensures.words) in
+    rw whole (gathered R w p ready fit c.in_ok-round.field-0 c.index-states-p.result words count c.in_ok-round.ensures.1 c.gather-count.ensures.words) in
     send_full R w p ready fit s.framed (take (count - 0) words) part c.add.result c.add.new.pool c.add.ensures.answer c.add.ensures.words
-    c.in-err-self.field-0.0 c.from-residual-in-err-self.result c.in-err-self.was c.from-residual-in-err-self.ensures.1
+    c.in_err-self.field-0.0 c.from_residual-in_err-self.result c.in_err-self.was c.from_residual-in_err-self.ensures.1
 
-pub invariant-of-self : goal.invariant-of-self
-invariant-of-self g c =
+pub invariant_of-self : goal.invariant_of-self
+invariant_of-self g c =
     let R = g.R.Rule.behaviour c.args.rule.now in
     let s = c.args.self.now in
     let w = world s c.args.states.now c.args.letters.now c.args.pool.now c.args.book.now in
     let p = c.args.p in
-    let ready = c.in-ok-ready.ensures.0 in
-    let fit = c.in-ok-round.ensures.0 in
+    let ready = c.in_ok-ready.ensures.0 in
+    let fit = c.in_ok-round.ensures.0 in
     let words = c.gather-count.result.0 in
     let count = c.gather-count.result.1 in
     let whole : count - 0 ≡ count = omega arith in
     let part : take (count - 0) words ≡ frames_of R w p =
-    rw whole (gathered R w p ready fit c.in-ok-round.field-0 c.index-states-p.result words count c.in-ok-round.ensures.1 c.gather-count.ensures.words) in
+    rw whole (gathered R w p ready fit c.in_ok-round.field-0 c.index-states-p.result words count c.in_ok-round.ensures.1 c.gather-count.ensures.words) in
     let room = send_room R w p ready fit s.framed (take (count - 0) words) part c.add.result c.add.new.pool c.add.ensures.answer c.add.ensures.words
-    c.in-ok-self.field-0 c.in-ok-self.was in
+    c.in_ok-self.field-0 c.in_ok-self.was in
     (s.few, (room, (s.entered, (s.rounds, (s.held, tt)))))
 
 pub returns : goal.returns
@@ -59,16 +59,16 @@ returns g c =
     let s = c.args.self.now in
     let w = world s c.args.states.now c.args.letters.now c.args.pool.now c.args.book.now in
     let p = c.args.p in
-    let ready = c.in-ok-ready.ensures.0 in
-    let fit = c.in-ok-round.ensures.0 in
+    let ready = c.in_ok-ready.ensures.0 in
+    let fit = c.in_ok-round.ensures.0 in
     let words = c.gather-count.result.0 in
     let count = c.gather-count.result.1 in
     let whole : count - 0 ≡ count = omega arith in
     let part : take (count - 0) words ≡ frames_of R w p =
-    rw whole (gathered R w p ready fit c.in-ok-round.field-0 c.index-states-p.result words count c.in-ok-round.ensures.1 c.gather-count.ensures.words) in
-    let many : count ≡ length (frames_of R w p) = gathered_many R w p ready fit c.in-ok-round.field-0 c.index-states-p.result words count
-    c.in-ok-round.ensures.1 c.gather-count.ensures.words (omega (arith, c.gather-count.ensures.few, c.gather-count.ensures.len, s.few)) in
+    rw whole (gathered R w p ready fit c.in_ok-round.field-0 c.index-states-p.result words count c.in_ok-round.ensures.1 c.gather-count.ensures.words) in
+    let many : count ≡ length (frames_of R w p) = gathered_many R w p ready fit c.in_ok-round.field-0 c.index-states-p.result words count
+    c.in_ok-round.ensures.1 c.gather-count.ensures.words (omega (arith, c.gather-count.ensures.few, c.gather-count.ensures.len, s.few)) in
     let kept = c.listen.ensures.counts in
     send_done R w p ready fit s.framed (take (count - 0) words) part c.add.result c.add.new.pool c.add.ensures.answer c.add.ensures.words
-    c.in-ok-self.field-0 c.in-ok-self.was count _ many
+    c.in_ok-self.field-0 c.in_ok-self.was count _ many
     (same_world kept.same_count kept.same_pool kept.same_book kept.same_frames kept.same_entries c.listen.ensures.table refl c.listen.ensures.row refl refl)

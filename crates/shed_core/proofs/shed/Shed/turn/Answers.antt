@@ -12,20 +12,20 @@ use Rattle.shed_core.proofs.Stations.{rounds_kept, holds_kept}
 use Rattle.shed_core.proofs.Turning.{turn_unready, turn_refused, turn_done, turns, next_is, entry_is}
 use Rattle.shed_core.proofs.shed.Shed.turn.Goals as goal
 
-pub returns-in-err-ready : goal.returns-in-err-ready
-returns-in-err-ready g c =
+pub returns-in_err-ready : goal.returns-in_err-ready
+returns-in_err-ready g c =
     let R = g.R.Rule.behaviour c.args.rule.now in
     let s = c.args.self.now in
     let w = world s c.args.states.now c.args.letters.now c.args.pool.now c.args.book.now in
-    turn_unready R w c.args.p c.in-err-ready.field-0.0 c.from-residual.result c.in-err-ready.ensures c.from-residual.ensures.1
+    turn_unready R w c.args.p c.in_err-ready.field-0.0 c.from_residual.result c.in_err-ready.ensures c.from_residual.ensures.1
 
-pub returns-in-err-station : goal.returns-in-err-station
-returns-in-err-station g c =
+pub returns-in_err-station : goal.returns-in_err-station
+returns-in_err-station g c =
     let R = g.R.Rule.behaviour c.args.rule.now in
     let s = c.args.self.now in
     let w = world s c.args.states.now c.args.letters.now c.args.pool.now c.args.book.now in
-    turn_refused R w c.args.p c.in-ok-ready.ensures.0 c.in-err-station.field-0.0 c.from-residual-in-err-station.result
-    c.in-err-station.ensures c.from-residual-in-err-station.ensures.1
+    turn_refused R w c.args.p c.in_ok-ready.ensures.0 c.in_err-station.field-0.0 c.from_residual-in_err-station.result
+    c.in_err-station.ensures c.from_residual-in_err-station.ensures.1
 
 pub mailbox-mail-requires : goal.mailbox-mail-requires
 mailbox-mail-requires g c =
@@ -33,22 +33,22 @@ mailbox-mail-requires g c =
     let s = c.args.self.now in
     let w = world s c.args.states.now c.args.letters.now c.args.pool.now c.args.book.now in
     let p = c.args.p in
-    let ready = c.in-ok-ready.ensures.0 in
-    let r = c.in-ok-station.station in
-    let known : r ≡ record_of s p = c.in-ok-station.ensures.1 in
-    let t = turns s.count p s.entries s.book_len (record_of s p) c.in-ok-station.ensures.0 in
+    let ready = c.in_ok-ready.ensures.0 in
+    let r = c.in_ok-station.station in
+    let known : r ≡ record_of s p = c.in_ok-station.ensures.1 in
+    let t = turns s.count p s.entries s.book_len (record_of s p) c.in_ok-station.ensures.0 in
     (g.met.R.Rule.room, (s.few, (t.there, (fitting R w ready).letters)))
 
-pub shared-whole-as-slice·all : goal.shared-whole-as-slice·all
-shared-whole-as-slice·all g c = g.met.R.Rule.room
+pub shared-whole-as_slice·all : goal.shared-whole-as_slice·all
+shared-whole-as_slice·all g c = g.met.R.Rule.room
 
-pub invariant-of-self : goal.invariant-of-self
-invariant-of-self g c =
+pub invariant_of-self : goal.invariant_of-self
+invariant_of-self g c =
     let s = c.args.self.now in
     let p = c.args.p in
-    let known = c.in-ok-station.ensures.1 in
-    let t = turns s.count p s.entries s.book_len (record_of s p) c.in-ok-station.ensures.0 in
-    let round : c.in-ok-station.station.round + 1 ≤ 4095 = rw known (omega (arith, s.rounds p, t.more)) in (
+    let known = c.in_ok-station.ensures.1 in
+    let t = turns s.count p s.entries s.book_len (record_of s p) c.in_ok-station.ensures.0 in
+    let round : c.in_ok-station.station.round + 1 ≤ 4095 = rw known (omega (arith, s.rounds p, t.more)) in (
       s.few,
       (
         s.framed,
@@ -68,10 +68,10 @@ returns g c =
     let s = c.args.self.now in
     let w = world s c.args.states.now c.args.letters.now c.args.pool.now c.args.book.now in
     let p = c.args.p in
-    let ready = c.in-ok-ready.ensures.0 in
-    let r = c.in-ok-station.station in
-    let known : r ≡ record_of s p = c.in-ok-station.ensures.1 in
-    let t = turns s.count p s.entries s.book_len (record_of s p) c.in-ok-station.ensures.0 in
+    let ready = c.in_ok-ready.ensures.0 in
+    let r = c.in_ok-station.station in
+    let known : r ≡ record_of s p = c.in_ok-station.ensures.1 in
+    let t = turns s.count p s.entries s.book_len (record_of s p) c.in_ok-station.ensures.0 in
     let there : p < length c.args.states.now = omega (arith, t.there, (fitting R w ready).states) in
     let whole : s.count - 0 ≡ s.count = omega arith in
     let heard : take (s.count - 0) c.mailbox-mail.result ≡ tabulate s.count (mail s.count p r.heard c.args.letters.now) =
@@ -79,7 +79,7 @@ returns g c =
     let next = next_is R w p r c.index-states-p.result c.next.result (take (s.count - 0) c.mailbox-mail.result) there known c.next.ensures heard in
     let word = entry_is p r.round r.heard c.pack_entry.result c.unwrap.result (omega (arith, t.there, s.few))
     (omega (arith, s.rounds p, ap (λ (x : Record). x.round) known)) c.pack_entry.ensures.word c.unwrap.ensures in
-    turn_done R w p ready r.round _ c.in-ok-station.ensures.0 (ap (λ (x : Record). x.round) known) (same_world refl refl refl refl refl
+    turn_done R w p ready r.round _ c.in_ok-station.ensures.0 (ap (λ (x : Record). x.round) known) (same_world refl refl refl refl refl
     (c.change.ensures ∙ ap (λ (x : Record). set s.table.records p (record { round = x.round + 1; stand = Fresh; heard = replicate 16 false; hold = x.hold })) known)
     (ap (set c.args.states.now p) next)
     refl refl

@@ -3,7 +3,7 @@ use Rattle.frames.specs.Frame.{pack_frame}
 use Rattle.std.proofs.lemmas.Bool.Decides.{nat_tests}
 use Rattle.shed_core.proofs.Gather.{none_more, some_more}
 use Rattle.shed_core.proofs.shed.sending.gather.Goals as goal
-use Rattle.shed_core.proofs.shed.sending.gather.Goals.{in-Some, in-default}
+use Rattle.shed_core.proofs.shed.sending.gather.Goals.{in-Some, in_default}
 
 pub loop-q-preserved : goal.loop-q-preserved
 loop-q-preserved g c =
@@ -21,7 +21,7 @@ loop-q-preserved g c =
           let word : w.unwrap.result ≡ pack_frame R (p, q, k, w.in-Some.letter) = grind (arith, nat_tests) in
           let e = some_more R n p k s q c.loop-q-test.true words count _ c.loop-q.invariant.2 w.in-Some.letter w.unwrap.result room (sym w.in-Some.ensures) word in
           (rw w.words-is (simp length-set c.loop-q.invariant.0), omega (arith, w.count-is, c.loop-q.invariant.1), rw (w.words-is, w.count-is) e)
-      | in-default w ↦
-          let e = none_more R n p k s q c.loop-q-test.true words count _ c.loop-q.invariant.2 (sym w.in-default.ensures) in
+      | in_default w ↦
+          let e = none_more R n p k s q c.loop-q-test.true words count _ c.loop-q.invariant.2 (sym w.in_default.ensures) in
           (rw w.words-is c.loop-q.invariant.0, omega (arith, w.count-is, c.loop-q.invariant.1), rw (w.words-is, w.count-is) e)
     ]

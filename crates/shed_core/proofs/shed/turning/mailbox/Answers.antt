@@ -10,9 +10,9 @@ loop-q-preserved g c =
     let f = mail c.args.n c.args.p c.args.heard.now c.args.letters.now in
     let q = c.loop-q.q in
     let xs = c.loop-q.mail in
-    let v = c.letter-from.result in
+    let v = c.letter_from.result in
     let room : q < length xs = omega (arith, c.loop-q.invariant.0) in
     let more : tabulate (q + 1) f ≡ tabulate q f ++ f q ∷ [] = rw (add-one q) (tabulate_more q f) in
     let again : take (q + 1) (set xs q v) ≡ tabulate (q + 1) f =
-    take_more_set xs q v room ∙ ap (λ ys. ys ++ v ∷ []) c.loop-q.invariant.1 ∙ ap (λ x. tabulate q f ++ x ∷ []) c.letter-from.ensures ∙ sym more in
+    take_more_set xs q v room ∙ ap (λ ys. ys ++ v ∷ []) c.loop-q.invariant.1 ∙ ap (λ x. tabulate q f ++ x ∷ []) c.letter_from.ensures ∙ sym more in
     (simp length-set c.loop-q.invariant.0, again)
