@@ -4,8 +4,8 @@ use Rattle.recount.specs.Recount.{state_after}
 use Rattle.recount.proofs.advance.advance.Goals as goal
 
 -- the mailbox is small enough for a slice
-pub whole-as_slice·next_of : goal.whole-as_slice·next_of
-whole-as_slice·next_of g c = g.met.R.Rule.room
+pub whole_as_slice-next_of : goal.whole_as_slice-next_of
+whole_as_slice-next_of g c = g.met.R.Rule.room
 
 pub loop-station-preserved : goal.loop-station-preserved
 loop-station-preserved g c =

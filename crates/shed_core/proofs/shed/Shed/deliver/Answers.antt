@@ -68,7 +68,13 @@ invariant_of-self g c =
     let f = c.in_ok-frame.frame in
     let room = deliver_room R w k ready s.framed c.frame_at.result c.frame_at.ensures f c.in_ok-frame.was c.take_out.result c.take_out.new.pool
     c.take_out.ensures.answer c.take_out.ensures.words c.in_ok-self.field-0 c.in_ok-self.was in
-    (s.few, (room, (s.entered, (s.rounds, (s.held, tt)))))
+    record {
+      few = s.few;
+      framed = room;
+      entered = s.entered;
+      rounds = s.rounds;
+      held = s.held;
+    }
 
 pub returns : goal.returns
 returns g c =

@@ -24,7 +24,13 @@ invariant_of-self g c =
     let w = world s c.args.states.now c.args.letters.now c.args.pool.now c.args.book.now in
     let room = drop_room R w c.args.k c.in_ok-ready.ensures.0 s.framed c.take_out.result c.take_out.new.pool c.take_out.ensures.answer c.take_out.ensures.words
     c.in_ok-self.field-0 c.in_ok-self.was in
-    (s.few, (room, (s.entered, (s.rounds, (s.held, tt)))))
+    record {
+      few = s.few;
+      framed = room;
+      entered = s.entered;
+      rounds = s.rounds;
+      held = s.held;
+    }
 
 pub returns : goal.returns
 returns g c =

@@ -16,16 +16,11 @@ invariant_of-self g c =
     let hold : (h : Held) → c.match-due_sender.station.hold ≡ Some h → h.sender < s.count = elim c.match-due_sender.branch [
       | in-Some w ↦ λ h e. none_some (rw w.station-is at e)
       | in_default w ↦ λ h e. s.held p h (rw (w.station-is, c.record-station.ensures) at e)
-    ] in (
-      s.few,
-      (
-        s.framed,
-        (
-          s.entered,
-          (
-            rounds_kept s.table.records p _ _ c.change.ensures s.rounds round,
-            (holds_kept s.count s.table.records p _ _ c.change.ensures s.held hold, tt),
-          ),
-        ),
-      ),
-    )
+    ] in
+    record {
+      few = s.few;
+      framed = s.framed;
+      entered = s.entered;
+      rounds = rounds_kept s.table.records p _ _ c.change.ensures s.rounds round;
+      held = holds_kept s.count s.table.records p _ _ c.change.ensures s.held hold;
+    }

@@ -16,7 +16,13 @@ invariant_of-self g c =
     let before = world c.args.self.now c.args.states.now c.args.letters.now c.args.pool.now c.args.book.now in
     let fine = opens (g.R.Rule.behaviour c.args.rule.now) face before values (sym c.in_default.ensures) in
     let few : length values ≤ 16 = omega (arith, fine.few, face.most_few) in
-    (few, (omega arith, (omega arith, (new_rounds _ c.new.ensures, (new_holds _ _ c.new.ensures, tt)))))
+    record {
+      few = few;
+      framed = omega arith;
+      entered = omega arith;
+      rounds = new_rounds _ c.new.ensures;
+      held = new_holds _ _ c.new.ensures;
+    }
 
 pub returns : goal.returns
 returns g c =

@@ -24,7 +24,13 @@ invariant_of-self g c =
     let w = world s c.args.states.now c.args.letters.now c.args.pool.now c.args.book.now in
     let room = repeat_room R w c.args.k c.in_ok-ready.ensures.0 s.framed c.repeat.result c.repeat.new.pool c.repeat.ensures.answer c.repeat.ensures.words
     c.in_ok-place.place c.in_ok-place.was in
-    (s.few, (room, (s.entered, (s.rounds, (s.held, tt)))))
+    record {
+      few = s.few;
+      framed = room;
+      entered = s.entered;
+      rounds = s.rounds;
+      held = s.held;
+    }
 
 pub returns : goal.returns
 returns g c =

@@ -51,7 +51,13 @@ invariant_of-self g c =
     rw whole (gathered R w p ready fit c.in_ok-round.field-0 c.index-states-p.result words count c.in_ok-round.ensures.1 c.gather-count.ensures.words) in
     let room = send_room R w p ready fit s.framed (take (count - 0) words) part c.add.result c.add.new.pool c.add.ensures.answer c.add.ensures.words
     c.in_ok-self.field-0 c.in_ok-self.was in
-    (s.few, (room, (s.entered, (s.rounds, (s.held, tt)))))
+    record {
+      few = s.few;
+      framed = room;
+      entered = s.entered;
+      rounds = s.rounds;
+      held = s.held;
+    }
 
 pub returns : goal.returns
 returns g c =

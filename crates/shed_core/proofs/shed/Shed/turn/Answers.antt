@@ -39,8 +39,8 @@ mailbox-mail-requires g c =
     let t = turns s.count p s.entries s.book_len (record_of s p) c.in_ok-station.ensures.0 in
     (g.met.R.Rule.room, (s.few, (t.there, (fitting R w ready).letters)))
 
-pub shared-whole-as_slice·all : goal.shared-whole-as_slice·all
-shared-whole-as_slice·all g c = g.met.R.Rule.room
+pub shared_whole_as_slice-all : goal.shared_whole_as_slice-all
+shared_whole_as_slice-all g c = g.met.R.Rule.room
 
 pub invariant_of-self : goal.invariant_of-self
 invariant_of-self g c =
@@ -48,19 +48,14 @@ invariant_of-self g c =
     let p = c.args.p in
     let known = c.in_ok-station.ensures.1 in
     let t = turns s.count p s.entries s.book_len (record_of s p) c.in_ok-station.ensures.0 in
-    let round : c.in_ok-station.station.round + 1 ≤ 4095 = rw known (omega (arith, s.rounds p, t.more)) in (
-      s.few,
-      (
-        s.framed,
-        (
-          omega (arith, s.entered, t.room),
-          (
-            rounds_kept s.table.records p _ _ c.change.ensures s.rounds round,
-            (holds_kept s.count s.table.records p _ _ c.change.ensures s.held (λ h e. s.held p h (ap (λ (x : Record). x.hold) (sym known) ∙ e)), tt),
-          ),
-        ),
-      ),
-    )
+    let round : c.in_ok-station.station.round + 1 ≤ 4095 = rw known (omega (arith, s.rounds p, t.more)) in
+    record {
+      few = s.few;
+      framed = s.framed;
+      entered = omega (arith, s.entered, t.room);
+      rounds = rounds_kept s.table.records p _ _ c.change.ensures s.rounds round;
+      held = holds_kept s.count s.table.records p _ _ c.change.ensures s.held (λ h e. s.held p h (ap (λ (x : Record). x.hold) (sym known) ∙ e));
+    }
 
 pub returns : goal.returns
 returns g c =
