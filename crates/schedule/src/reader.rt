@@ -78,7 +78,7 @@ fn values_line(heap: Global, line: &[u8]) -> Result<Option<Vec<u16>>, AllocError
     ensures { IfOk result (λ values. option_map vec_items values ≡ values_line line.now) }
 {
     let (word, mut rest) = first_piece(line, b' ');
-    if word != b"values" {
+    if word != b"values".as_slice() {
         return Ok(None);
     }
     let mut values = Vec::new(heap);
