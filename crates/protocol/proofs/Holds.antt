@@ -1,5 +1,5 @@
 -- The sender of a held letter of the station's own round. Assumes nothing.
-use Rattle.std.proofs.Common.{◌≡◌, ℕ, Bool, true, false, cond, eqb, Some, None, Option, sym, refl, ◌∙◌}
+use Rattle.std.proofs.Common.{◌≡◌, ℕ, eqb, Some, None, Option, sym, refl, ◌∙◌}
 use Rattle.std.proofs.lemmas.Bool.{eqb-true, eq-eqb}
 use Rattle.rules.proofs.Options.{none_some, only, same_some}
 use Rattle.protocol.specs.declared.types.Held.{Held}

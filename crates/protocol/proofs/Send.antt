@@ -1,8 +1,7 @@
 -- An accepted send keeps the invariant: its frames are the tally's slips, and a held letter of the station's round is taken in. Assumes nothing.
-use Rattle.std.proofs.Common.{◌≡◌, ℕ, zero, suc, ◌+◌, ◌-◌, ◌*◌, ◌<◌, ◌≤◌, Bool, true, false, cond, ◌&&◌, ◌||◌, eqb, ltb, leb, List, ◌∷◌, ◌++◌, length, get_or, set, Some, None, Option, sym, refl, ap, ◌∙◌, subst, inl, inr, arith}
-use Rattle.std.specs.List.{slice_get}
+use Rattle.std.proofs.Common.{◌≡◌, ℕ, zero, suc, ◌+◌, ◌-◌, ◌*◌, ◌<◌, ◌≤◌, Bool, true, false, ◌&&◌, ◌||◌, eqb, ltb, leb, List, ◌∷◌, ◌++◌, length, get_or, set, Some, None, Option, sym, refl, ap, ◌∙◌, subst, inl, inr, arith}
 use Rattle.std.proofs.lemmas.List.{length-set, length-append, get_or_append_left, get_or-append_right, get_or-set_same, get_or-set_other}
-use Rattle.std.proofs.lemmas.Bool.{cases_eq, cases_lt, leb-false, ltb-false, eqb-true, eqb-false, eq-eqb, ne_eqb, true≢false, false≢true, cond_both, and_right}
+use Rattle.std.proofs.lemmas.Bool.{cases_eq, cases_lt, leb-false, ltb-false, eq-eqb, ne_eqb, true≢false, false≢true, and_right}
 use Rattle.rules.specs.Rule.{Behaviour, lockstep}
 use Rattle.rules.specs.Lists.{put}
 use Rattle.frames.specs.Frame.{pack_frame}
@@ -16,7 +15,7 @@ use Rattle.protocol.specs.Calls.{step, with_pool, with_stations, with_letters, c
 use Rattle.protocol.specs.Tally.{Tally, Slip, heard_in, nowhere, slips_from, tally_accepted}
 use Rattle.rules.proofs.Tables.{get_or_put_below, get_or_put_in}
 use Rattle.protocol.proofs.Places.{nth_some, cell_within, cell_written, cell_kept}
-use Rattle.rules.proofs.Options.{none_some, passed, same_some}
+use Rattle.rules.proofs.Options.{none_some, passed}
 use Rattle.protocol.proofs.Holds.{due_some, due_none}
 use Rattle.protocol.proofs.Invariant.{Inv, Carry, Seated, Matched, sound, Follows, attempted}
 use Rattle.protocol.proofs.Change.{pool_changed, station_changed}

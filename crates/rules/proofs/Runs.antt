@@ -1,6 +1,6 @@
 -- The lockstep run: what it depends on, that its states and letters stay within their ranges, and that hulls stay.
 -- Assumes nothing.
-use Rattle.std.proofs.Common.{◌≡◌, ℕ, zero, suc, ◌^◌, ◌<◌, ◌≤◌, Bool, true, T, List, length, get_or, Some, Option, refl, ap, ◌∙◌, subst, inl, inr, arith}
+use Rattle.std.proofs.Common.{◌≡◌, ℕ, zero, suc, ◌^◌, ◌<◌, ◌≤◌, Bool, true, T, List, length, get_or, Some, refl, ap, ◌∙◌, subst, inl, inr, arith}
 use Rattle.std.proofs.lemmas.Bool.{cases_eq, cases_Bool}
 use Rattle.rules.specs.Rule.{Behaviour, Interface, Stable, Heard, MailFits, letter_heard, mailbox, next_state, lockstep}
 use Rattle.rules.proofs.Options.{only}

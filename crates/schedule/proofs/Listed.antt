@@ -1,6 +1,5 @@
 -- A run that was carried out, and the listing that is made of it. Assumes nothing.
-use Rattle.std.proofs.Common.{◌≡◌, ℕ, zero, suc, ◌+◌, ◌-◌, ◌<◌, ◌≤◌, List, map, length, take, replicate, Some, None, Err, Option, sym, refl, ap, ◌∙◌, subst, arith}
-use Rattle.std.specs.List.{slice_get}
+use Rattle.std.proofs.Common.{◌≡◌, ℕ, zero, suc, ◌+◌, ◌-◌, ◌<◌, ◌≤◌, List, map, length, take, replicate, Some, None, Err, Option, sym, ap, ◌∙◌, arith}
 use Rattle.std.proofs.lemmas.List.{length-append, length-map}
 use Rattle.rules.specs.Lists.{tabulate}
 use Rattle.rules.specs.Rule.{Behaviour, Interface}
@@ -10,7 +9,7 @@ use Rattle.protocol.specs.declared.refusal.Refusal.{Refusal}
 use Rattle.protocol.specs.declared.types.Sight.{Sight}
 use Rattle.protocol.specs.declared.types.Step.{Step}
 use Rattle.protocol.specs.World.{World}
-use Rattle.protocol.specs.Calls.{look_refusal, after, refusals}
+use Rattle.protocol.specs.Calls.{look_refusal, refusals}
 use Rattle.protocol.specs.Tally.{Triple, start, tally}
 use Rattle.protocol.specs.Guarantee.{Guarantee, entry}
 use Rattle.shed_core.specs.declared.shed.Shed.{Shed}
@@ -20,7 +19,7 @@ use Rattle.shed_core.specs.Of.{world}
 use Rattle.conduct.specs.Conduct.{CarriedOut}
 use Rattle.schedule.specs.declared.printer.RefusedStep.{RefusedStep}
 use Rattle.schedule.specs.Printing.{listing_text}
-use Rattle.schedule.specs.Program.{refused_from, sight, sights, begun, over, run_listing, hull_in, hull_at, ListsOneHull}
+use Rattle.schedule.specs.Program.{refused_from, sight, sights, begun, over, run_listing, hull_at, ListsOneHull}
 use Rattle.schedule.specs.Running.{Seen, Listed, Runs}
 use Rattle.schedule.proofs.Sizes.{looks, accepted, book_length}
 

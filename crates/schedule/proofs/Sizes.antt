@@ -1,10 +1,10 @@
 -- Every call keeps the number of stations and the lengths of the buffers, so whoever looks after a run is not refused. Assumes nothing.
-use Rattle.std.proofs.Common.{◌≡◌, ℕ, suc, ◌+◌, ◌-◌, ◌*◌, ◌<◌, ◌≤◌, false, not, ◌||◌, eqb, ltb, leb, List, [], ◌∷◌, length, get_or, drop, set, Some, None, Ok, Err, Option, Result, sym, refl, ap, ◌∙◌, arith}
+use Rattle.std.proofs.Common.{◌≡◌, ℕ, ◌+◌, ◌*◌, ◌<◌, ◌≤◌, false, not, ◌||◌, eqb, ltb, leb, List, [], ◌∷◌, length, get_or, drop, set, Some, None, Err, Option, Result, sym, refl, ap, ◌∙◌, arith}
 use Rattle.std.specs.List.{slice_get}
-use Rattle.std.proofs.lemmas.List.{length-set, length-append, length-drop, length-replicate}
+use Rattle.std.proofs.lemmas.List.{length-set, length-append, length-replicate}
 use Rattle.std.proofs.lemmas.Bool.{cond-false, or_parts, or_from, ne_eqb, le-ltb, lt-leb, ltb-false, eq-eqb}
 use Rattle.rules.specs.Rule.{Behaviour}
-use Rattle.rules.specs.Lists.{tabulate, written}
+use Rattle.rules.specs.Lists.{tabulate}
 use Rattle.rules.proofs.Options.{passed}
 use Rattle.rules.proofs.Tables.{length_put, length_tabulate}
 use Rattle.frames.specs.Frame.{Frame}
@@ -17,7 +17,7 @@ use Rattle.protocol.specs.declared.types.Stand.TheVariants.{Down}
 use Rattle.protocol.specs.declared.types.Step.{Step}
 use Rattle.protocol.specs.declared.types.Step.TheVariants.{Send, Deliver, Drop, Repeat, Turn, Crash}
 use Rattle.protocol.specs.World.{World, station}
-use Rattle.protocol.specs.Calls.{attempt, cell, copied, taken_in, due, received_letters, opened, open_refusal, mismatched, look_refusal, frames_of, sent, send_refusal, without_frame, fate_of, received, receiver_refusal, place_refusal, frame_at, repeat_refusal, with_pool, with_stations, deliver_call, turned, turn_refusal, crash_refusal, step, after, refusals}
+use Rattle.protocol.specs.Calls.{attempt, cell, taken_in, due, received_letters, opened, open_refusal, mismatched, look_refusal, frames_of, sent, send_refusal, without_frame, fate_of, received, receiver_refusal, place_refusal, frame_at, repeat_refusal, with_pool, with_stations, deliver_call, turned, turn_refusal, crash_refusal, step, after}
 use Rattle.protocol.proofs.Invariant.{Matched}
 
 -- ---- lengths of cells

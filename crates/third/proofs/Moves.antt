@@ -1,5 +1,5 @@
 -- A round of OneThirdRule does what its law says. Assumes nothing.
-use Rattle.std.proofs.Common.{◌≡◌, ℕ, ◌*◌, ◌<◌, ◌≤◌, Bool, false, cond, not, ◌||◌, eqb, ltb, length, None, sym, ap, ◌∙◌, arith}
+use Rattle.std.proofs.Common.{◌≡◌, ℕ, ◌*◌, false, not, ◌||◌, eqb, length, sym, ap, ◌∙◌, arith}
 use Rattle.std.proofs.lemmas.Bool.{lt-ltb, le-ltb, eq-eqb, cond-true, cond-false, or_from, not_from_true}
 use Rattle.rules.specs.Rule.{outside}
 use Rattle.third.specs.declared.State.{State}

@@ -1,8 +1,8 @@
 -- What the counts of a mailbox give: the winner is the value that occurs most often, the smallest of these in a tie, and a quorum's value is the one that occurs often enough.
 -- Assumes nothing.
-use Rattle.std.specs.Prelude.{◌≡◌, ℕ, zero, suc, ◌+◌, ◌*◌, ◌<◌, ◌≤◌, Bool, true, false, cond, ◌&&◌, List, [], ◌∷◌, length, is_some, Some, None, fold, count_by, Option, ◌==◌, nat_lt, slice_index_or, refl}
+use Rattle.std.specs.Prelude.{◌≡◌, ℕ, zero, suc, ◌*◌, ◌<◌, ◌≤◌, Bool, true, false, cond, ◌&&◌, [], ◌∷◌, length, is_some, Some, None, fold, Option, ◌==◌, nat_lt, slice_index_or, refl}
 use Rattle.std.proofs.Common.{sym, ap, ◌∙◌, inl, inr, arith}
-use Rattle.std.proofs.lemmas.List.Sums.{sum_by-cons, get_or-le-sum_by}
+use Rattle.std.proofs.lemmas.List.Sums.{get_or-le-sum_by}
 use Rattle.std.proofs.lemmas.Bool.{false≢true, ltb-true, ltb-false, eqb-true, eqb-false, eq-eqb, or_cases, or_parts, and_parts, and_cases, cond_both, cond-true, lt-ltb, cases_eq}
 use Rattle.third.specs.declared.Letter.{Letter}
 use Rattle.rules.proofs.Counting.{count_none, overlap, count_by_count, found_by}

@@ -1,5 +1,5 @@
 -- Worked examples of the calls: two stations that open with 9 and 7 under OneThirdRule. Assumes nothing.
-use Rattle.std.specs.Prelude.{◌≡◌, ℕ, true, false, List, [], ◌∷◌, map, get_or, take, replicate, Some, None, Ok, Option, Result}
+use Rattle.std.specs.Prelude.{◌≡◌, ℕ, true, false, List, [], ◌∷◌, map, take, replicate, Some, None, Ok, Option, Result}
 use Rattle.third.specs.declared.State.{State}
 use Rattle.third.specs.declared.Letter.{Letter}
 use Rattle.third.specs.Third.{third}

@@ -1,5 +1,5 @@
 -- Worked examples of frames and book entries. Assumes nothing.
-use Rattle.std.specs.Prelude.{◌≡◌, ℕ, Bool, true, false, List, ◌∷◌, replicate, Some, None}
+use Rattle.std.specs.Prelude.{◌≡◌, true, false, ◌∷◌, replicate, Some, None}
 use Rattle.third.specs.Third.{third}
 use Rattle.last.specs.Last.{last}
 use Rattle.frames.specs.Frame.{pack_frame, read_frame}
