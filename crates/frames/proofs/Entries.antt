@@ -5,7 +5,7 @@ use Rattle.std.proofs.lemmas.List.{get_or_past, ext_get_or}
 use Rattle.std.proofs.lemmas.Bool.{lt-ltb, le-ltb, ltb-true, cases_lt, and_parts}
 use Rattle.rules.specs.Lists.{tabulate}
 use Rattle.rules.proofs.Options.{same_some, only}
-use Rattle.rules.proofs.Tables.{get_d_tabulate}
+use Rattle.rules.proofs.Tables.{get_or_tabulate}
 use Rattle.frames.specs.Book.{set_bits, pack_entry, packed_entry, senders_in, read_entry, EntryBack, EntryAgain}
 use Rattle.frames.proofs.Bits.{bits_small, parity, bit_at, bits_of}
 
@@ -50,7 +50,7 @@ entry_senders : (p k : ℕ) (heard : List Bool) → length heard ≡ 16 → send
 unfolding senders_in
 entry_senders p k heard h =
     let f : ℕ → Bool = λ q. eqb (pack_entry p k heard / 2 ^ (47 - q) % 2) 1 in
-    ext_get_or false (tabulate 16 f) heard (sym h) (λ q l. get_d_tabulate 16 f q false l ∙ set_bit p k q heard h l)
+    ext_get_or false (tabulate 16 f) heard (sym h) (λ q l. get_or_tabulate 16 f q false l ∙ set_bit p k q heard h l)
 
 -- ---- both ways
 pub entry_back : (p k : ℕ) (heard : List Bool) (word : Option ℕ) → length heard ≡ 16 → word ≡ packed_entry p k heard → EntryBack p k heard word

@@ -2,7 +2,7 @@
 use Rattle.std.proofs.Common.{◌≡◌, ℕ, zero, suc, ◌-◌, ◌/◌, ◌%◌, ◌^◌, ◌<◌, Bool, true, false, cond, ◌&&◌, eqb, ltb, List, [], ◌∷◌, ◌++◌, get_or, set, replicate, sym, refl, ap, ◌∙◌}
 use native.Mathlib.Nat.{zero-div}
 use Rattle.std.proofs.lemmas.Bool.{lt-ltb, eq-eqb, ne_eqb, and_left, and_right, and_from}
-use Rattle.rules.proofs.Tables.{tabulate_same, tabulate_set, get_d_tabulate}
+use Rattle.rules.proofs.Tables.{tabulate_same, tabulate_set, get_or_tabulate}
 use Rattle.frames.specs.Book.{senders_in, book_heard, heard_set, heard_sets, hears}
 
 -- whether a word is for station p and round k
@@ -52,7 +52,7 @@ sets_empty k = tabulate_same 16 (λ p. heard_set [] p k) (λ _. replicate 16 fal
 pub sets_hear : (words : List ℕ) (k p q : ℕ) → p < 16 → q < 16 → hears (heard_sets words k) p q ≡ book_heard words p k q
 unfolding heard_sets heard_set
 sets_hear words k p q l m =
-    ap (λ xs. get_or xs q false) (get_d_tabulate 16 (λ x. heard_set words x k) p [] l) ∙ get_d_tabulate 16 (book_heard words p k) q false m
+    ap (λ xs. get_or xs q false) (get_or_tabulate 16 (λ x. heard_set words x k) p [] l) ∙ get_or_tabulate 16 (book_heard words p k) q false m
 
 -- ---- zero words
 nobody : (a b : Bool) → cond a (b && false) false ≡ false

@@ -5,7 +5,7 @@ use Rattle.std.proofs.Common.{sym, subst, ◌∙◌, inl, inr, arith}
 use Rattle.std.proofs.lemmas.Bool.{cond_both, eqb-true, eq-eqb, ne_eqb, ltb-true, lt-ltb, le-ltb, lt-leb, or_from, or_left, or_right, cond-true}
 use Rattle.rules.specs.Rule.{Opening, Heard, lockstep, letter_heard, mailbox, outside}
 use Rattle.rules.proofs.Options.{only}
-use Rattle.rules.proofs.Tables.{length_tabulate, get_d_tabulate, at_tabulate}
+use Rattle.rules.proofs.Tables.{length_tabulate, get_or_tabulate, at_tabulate}
 use Rattle.rules.proofs.Counting.{count, count_all, overlap, count_by_tabulate}
 use Rattle.last.specs.declared.State.{State}
 use Rattle.last.specs.declared.Letter.{Letter}
@@ -87,7 +87,7 @@ module _ (values : List ℕ) (opening : Opening last values) (H : Heard) where
   unfolding hears
   heard_letter k p q h e =
       let l = letter_there (letter_heard last n p k (H p k) (run k) q) e in
-      (l.0, get_d_tabulate n (letter_heard last n p k (H p k) (run k)) q None h ∙ l.1)
+      (l.0, get_or_tabulate n (letter_heard last n p k (H p k) (run k)) q None h ∙ l.1)
 
   -- step 0
   votes : (k p : ℕ) → k % 4 ≡ 0 → p ≡ coordinator n k → n < 2 * heard (mail k p) → Collects n (phase k) (run k) p (commit (latest (mail k p)) (run k p))

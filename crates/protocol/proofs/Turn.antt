@@ -14,7 +14,7 @@ use Rattle.protocol.specs.World.{World, station, blank}
 use Rattle.protocol.specs.Calls.{step, cell, state_of, is_fresh, is_down, mailbox_of, turn_refusal, turned}
 use Rattle.protocol.specs.Tally.{Tally, Triple, heard_in, tally_accepted}
 use Rattle.protocol.specs.Guarantee.{entry}
-use Rattle.rules.proofs.Tables.{length_tabulate, get_d_tabulate, tabulate_same}
+use Rattle.rules.proofs.Tables.{length_tabulate, get_or_tabulate, tabulate_same}
 use Rattle.protocol.proofs.Places.{get_or_replicate_all}
 use Rattle.protocol.proofs.Words.{Whole}
 use Rattle.rules.proofs.Runs.{Known, run_grows}
@@ -131,7 +131,7 @@ module _ {S L : Type 0} (R : Behaviour S L) (values : List ℕ) (B : ℕ) (w : W
 
   heard_is : tabulate 16 (t.notes p rd) ≡ s.heard
   heard_is = ext_get_or false (tabulate 16 (t.notes p rd)) s.heard (length_tabulate 16 (t.notes p rd) ∙ sym a.places)
-      (λ q l. get_d_tabulate 16 (t.notes p rd) q false (rw length_tabulate at l) ∙ heard_now q)
+      (λ q l. get_or_tabulate 16 (t.notes p rd) q false (rw length_tabulate at l) ∙ heard_now q)
 
   heard_then : (q : ℕ) → Hn p rd q ≡ get_or s.heard q false
   heard_then q = heard_new t.rounds t.triples (new R values t i.known p) q i.over (omega arith) ∙ ap (λ x. get_or x q false) heard_is

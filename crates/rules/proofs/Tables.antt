@@ -10,10 +10,10 @@ module _ {A : Type 0} where
   length_tabulate zero f = refl
   length_tabulate (suc n) f = ap suc (length_tabulate n (λ k. f (suc k)))
 
-  pub get_d_tabulate : (n : ℕ) (f : ℕ → A) (i : ℕ) (d : A) → i < n → get_or (tabulate n f) i d ≡ f i
-  get_d_tabulate zero f i d h = absurd (omega arith)
-  get_d_tabulate (suc n) f zero d h = refl
-  get_d_tabulate (suc n) f (suc i) d h = get_d_tabulate n (λ k. f (suc k)) i d (omega arith)
+  pub get_or_tabulate : (n : ℕ) (f : ℕ → A) (i : ℕ) (d : A) → i < n → get_or (tabulate n f) i d ≡ f i
+  get_or_tabulate zero f i d h = absurd (omega arith)
+  get_or_tabulate (suc n) f zero d h = refl
+  get_or_tabulate (suc n) f (suc i) d h = get_or_tabulate n (λ k. f (suc k)) i d (omega arith)
 
   pub tabulate_same : (n : ℕ) (f g : ℕ → A) → ((i : ℕ) → i < n → f i ≡ g i) → tabulate n f ≡ tabulate n g
   tabulate_same zero f g e = refl
@@ -65,7 +65,7 @@ module _ {A : Type 0} where
   pub get_or_written : (n : ℕ) (f : ℕ → A) (xs : List A) (i : ℕ) (d : A) → i < n → get_or (written n f xs) i d ≡ f i
   get_or_written n f xs i d h =
       let within : i < length (tabulate n f) = rw (length_tabulate n f) h in
-      get_or_append_left (tabulate n f) (drop n xs) d i within ∙ get_d_tabulate n f i d h
+      get_or_append_left (tabulate n f) (drop n xs) d i within ∙ get_or_tabulate n f i d h
 
   -- the cells that were not
   pub drop_written : (n : ℕ) (f : ℕ → A) (xs : List A) → drop n (written n f xs) ≡ drop n xs
