@@ -1,5 +1,6 @@
 #!/bin/sh
 # measure.sh PROGRAM: instructions of PROGRAM and of peer-shed on a schedule of 65,536 bytes for each rule.
+# The product is crates/shed/out/shed, which `rt run` in crates/shed leaves there.
 set -eu
 program=${1:?measure.sh PROGRAM}
 here=$(cd "$(dirname "$0")" && pwd)
