@@ -5,7 +5,7 @@ use Rattle.std.proofs.lemmas.Bool.{and_from, and_left, and_right, ne_eqb, eqb-fa
 use Rattle.rules.proofs.Options.{none_some, same_some}
 use Rattle.schedule.specs.declared.types.Fault.{Fault}
 use Rattle.schedule.specs.declared.types.Fault.TheVariants.{TooLong, WrongRule, WrongValues, WrongStep, Unfinished}
-use Rattle.schedule.specs.Reading.{Plan, onto_first, pieces, all_but_last, last_of, finished, unfinished, rule_line, values_line, step_line, right, wrong as fault-at, first_wrong, plan_in, unless, read_lines, read_text}
+use Rattle.schedule.specs.Reading.{Plan, onto_first, pieces, all_but_last, last_of, finished, unfinished, rule_line, values_line, step_line, right, wrong as fault_at, first_wrong, plan_in, unless, read_lines, read_text}
 use Rattle.schedule.specs.Writing.{ended, write_schedule, Fits}
 use Rattle.schedule.specs.Judging.{Unbroken, Cut, Right, AllRight, WrongAt, StopsAt, HasFault, ReadOneWay, ReadingLaws}
 use Rattle.schedule.proofs.Numbers.{numbers_read_back}
@@ -86,13 +86,13 @@ pub record FirstWrong (k : ℕ) (lines : List (List ℕ)) (f : Fault) : Type 0 w
   pub is : lines ≡ before ++ line ∷ later
   pub right : AllRight k before
   pub wrong : Right (k + length before) line → ⊥
-  pub fault : fault-at (k + length before) ≡ f
+  pub fault : fault_at (k + length before) ≡ f
 
 found : (k : ℕ) (lines : List (List ℕ)) (f : Fault) → 1 ≤ k → first_wrong k lines ≡ Some f → FirstWrong k lines f
 found k [] f h e = none_some e
 found k (l ∷ ls) f h e = go (right k l) refl e (λ e'. found (suc k) ls f (omega arith) e')
   where
-    go : (t : Bool) → right k l ≡ t → cond t (first_wrong (suc k) ls) (Some (fault-at k)) ≡ Some f → (first_wrong (suc k) ls ≡ Some f → FirstWrong (suc k) ls f) → FirstWrong k (l ∷ ls) f
+    go : (t : Bool) → right k l ≡ t → cond t (first_wrong (suc k) ls) (Some (fault_at k)) ≡ Some f → (first_wrong (suc k) ls ≡ Some f → FirstWrong (suc k) ls f) → FirstWrong k (l ∷ ls) f
     go true g e' further =
         let w = further e' in
         let n : k + suc (length w.before) ≡ suc k + length w.before = omega arith in
@@ -103,7 +103,7 @@ found k (l ∷ ls) f h e = go (right k l) refl e (λ e'. found (suc k) ls f (ome
           is = ap (λ x. l ∷ x) w.is;
           right = (right_says k l h g, w.right);
           wrong = λ r. w.wrong (subst (λ j. Right j w.line) n r);
-          fault = ap fault-at n ∙ w.fault;
+          fault = ap fault_at n ∙ w.fault;
         }
     go false g e' further =
         let n : k + 0 ≡ k = omega arith in
@@ -114,25 +114,25 @@ found k (l ∷ ls) f h e = go (right k l) refl e (λ e'. found (suc k) ls f (ome
           is = refl;
           right = tt;
           wrong = λ r. false≢true (sym g ∙ says_right k l (subst (λ j. Right j l) n r));
-          fault = ap fault-at n ∙ same_some e';
+          fault = ap fault_at n ∙ same_some e';
         }
 
-lost : (k : ℕ) (before : List (List ℕ)) (line : List ℕ) (later : List (List ℕ)) → 1 ≤ k → AllRight k before → (Right (k + length before) line → ⊥) → first_wrong k (before ++ line ∷ later) ≡ Some (fault-at (k + length before))
+lost : (k : ℕ) (before : List (List ℕ)) (line : List ℕ) (later : List (List ℕ)) → 1 ≤ k → AllRight k before → (Right (k + length before) line → ⊥) → first_wrong k (before ++ line ∷ later) ≡ Some (fault_at (k + length before))
 lost k [] line later h rights bad =
     let n : k ≡ k + 0 = omega arith in
     elim (cases_Bool (right k line)) [
       | inl t ↦ absurd (bad (subst (λ j. Right j line) n (right_says k line h t)))
-      | inr t ↦ cond-false (right k line) _ _ t ∙ ap (λ j. Some (fault-at j)) n
+      | inr t ↦ cond-false (right k line) _ _ t ∙ ap (λ j. Some (fault_at j)) n
     ]
 lost k (l ∷ ls) line later h rights bad =
     let n : suc k + length ls ≡ k + suc (length ls) = omega arith in
-    cond-true (right k l) _ _ (says_right k l rights.0) ∙ lost (suc k) ls line later (omega arith) rights.1 (λ r. bad (subst (λ j. Right j line) n r)) ∙ ap (λ j. Some (fault-at j)) n
+    cond-true (right k l) _ _ (says_right k l rights.0) ∙ lost (suc k) ls line later (omega arith) rights.1 (λ r. bad (subst (λ j. Right j line) n r)) ∙ ap (λ j. Some (fault_at j)) n
 
 none_wrong : (k : ℕ) (lines : List (List ℕ)) → 1 ≤ k → first_wrong k lines ≡ None → AllRight k lines
 none_wrong k [] h e = tt
 none_wrong k (l ∷ ls) h e = go (right k l) refl e (none_wrong (suc k) ls (omega arith))
   where
-    go : (t : Bool) → right k l ≡ t → cond t (first_wrong (suc k) ls) (Some (fault-at k)) ≡ None → (first_wrong (suc k) ls ≡ None → AllRight (suc k) ls) → AllRight k (l ∷ ls)
+    go : (t : Bool) → right k l ≡ t → cond t (first_wrong (suc k) ls) (Some (fault_at k)) ≡ None → (first_wrong (suc k) ls ≡ None → AllRight (suc k) ls) → AllRight k (l ∷ ls)
     go true g e' further = (right_says k l h g, further e')
     go false g e' further = none_some (sym e')
 
@@ -142,7 +142,7 @@ all_right k (l ∷ ls) rights = cond-true (right k l) _ _ (says_right k l rights
 
 -- ---- the text's fault
 module _ (text : List ℕ) where
-  named : (k : ℕ) → 1 ≤ k → length text ≤ 65536 → WrongAt text k → HasFault text (fault-at k)
+  named : (k : ℕ) → 1 ≤ k → length text ≤ 65536 → WrongAt text k → HasFault text (fault_at k)
   named zero h short w = absurd (omega arith)
   named (suc zero) h short w = (short, w)
   named (suc (suc zero)) h short w = (short, w)
@@ -191,13 +191,13 @@ module _ (text : List ℕ) where
       outer true long e' = let same : TooLong ≡ f = cc in subst (HasFault text) same (ltb-true 65536 (length text) long)
       outer false long e' = inner (finished text) (unfinished text) (cut_of text) (ltb-false 65536 (length text) long) f (first_wrong 1 (finished text)) (eqb (length (unfinished text)) 0 && ltb 2 (length (finished text))) refl refl e'
 
-  wrong_told : (k : ℕ) → length text ≤ 65536 → WrongAt text k → read_text text ≡ Err (fault-at k)
+  wrong_told : (k : ℕ) → length text ≤ 65536 → WrongAt text k → read_text text ≡ Err (fault_at k)
   unfolding read_lines
   wrong_told k short w =
       let n : 1 + length w.before ≡ k = omega (arith, w.number) in
       let both = cut_lines text (w.before ++ w.line ∷ w.later) w.rest w.cut in
-      let first : first_wrong 1 (finished text) ≡ Some (fault-at k) =
-      ap (first_wrong 1) both.0 ∙ lost 1 w.before w.line w.later (omega arith) w.right (λ r. w.wrong (subst (λ j. Right j w.line) n r)) ∙ ap (λ j. Some (fault-at j)) n in
+      let first : first_wrong 1 (finished text) ≡ Some (fault_at k) =
+      ap (first_wrong 1) both.0 ∙ lost 1 w.before w.line w.later (omega arith) w.right (λ r. w.wrong (subst (λ j. Right j w.line) n r)) ∙ ap (λ j. Some (fault_at j)) n in
       by_pieces_is text short ∙ ap (λ o. unless o (cond (eqb (length (unfinished text)) 0 && ltb 2 (length (finished text))) (Ok (plan_in (finished text))) (Err (Unfinished (length (finished text) + 1))))) first
 
   stops_told : (k : ℕ) → length text ≤ 65536 → StopsAt text k → read_text text ≡ Err (Unfinished k)

@@ -127,7 +127,7 @@ abbrev pub steps_in : List (List ℕ) → List Step
 steps_in [] = []
 steps_in (line ∷ lines) = and_step (step_line line) (steps_in lines)
 
--- the schedule of lines that are right, three at least; the values at the end of `valueOr` stand for no such line
+-- the schedule of lines that are right, three at least; the values at the end of `unwrap_or` stand for no such line
 abbrev pub plan_in : List (List ℕ) → Plan
 plan_in lines = record {
   rule = unwrap_or (rule_line (slice_index_or lines 0 [])) Third;

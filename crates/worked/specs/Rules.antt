@@ -1,20 +1,20 @@
 -- Worked examples of the two rules. Assumes nothing.
 use Rattle.std.specs.Prelude.{◌≡◌, ℕ, ◌+◌, ◌*◌, ◌^◌, true, false, List, [], ◌∷◌, Some, None, Option}
-use Rattle.third.specs.declared.State.{State as Third-state}
-use Rattle.third.specs.declared.Letter.{Letter as Third-letter}
+use Rattle.third.specs.declared.State.{State as ThirdState}
+use Rattle.third.specs.declared.Letter.{Letter as ThirdLetter}
 use Rattle.third.specs.Third.{third}
-use Rattle.last.specs.declared.State.{State as Last-state}
-use Rattle.last.specs.declared.Letter.{Letter as Last-letter}
+use Rattle.last.specs.declared.State.{State as LastState}
+use Rattle.last.specs.declared.Letter.{Letter as LastLetter}
 use Rattle.last.specs.Last.{last}
 
 -- ---- OneThirdRule: station 0 in round 0, with value 9 and no hull
-abbrev pub voting : ℕ → Option ℕ → Third-state
+abbrev pub voting : ℕ → Option ℕ → ThirdState
 voting v h = record { value = v; hull = h }
 
-abbrev pub value : ℕ → Option Third-letter
+abbrev pub value : ℕ → Option ThirdLetter
 value v = Some (record { value = v })
 
-abbrev pub third_hears : ℕ → List (Option Third-letter) → Third-state
+abbrev pub third_hears : ℕ → List (Option ThirdLetter) → ThirdState
 third_hears n m = third.next n 0 0 (voting 9 None) m
 
 pub record ThirdExamples : Type 0 where
@@ -24,13 +24,13 @@ pub record ThirdExamples : Type 0 where
   pub two_of_three_heard : third_hears 3 (value 7 ∷ value 7 ∷ None ∷ []) ≡ voting 9 None
 
 -- ---- LastVoting: station 0, the coordinator of round 0, with value 5
-abbrev pub opened : Last-state
+abbrev pub opened : LastState
 opened = last.first 4 0 5
 
-abbrev pub stamped : ℕ → ℕ → Option Last-letter
+abbrev pub stamped : ℕ → ℕ → Option LastLetter
 stamped v x = Some (record { value = v; stamp = x })
 
-abbrev pub last_hears : List (Option Last-letter) → Last-state
+abbrev pub last_hears : List (Option LastLetter) → LastState
 last_hears m = last.next 4 0 0 opened m
 
 pub record LastExamples : Type 0 where
