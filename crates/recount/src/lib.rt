@@ -30,9 +30,9 @@ pub fn recount<R: Rule>(
     scratch: &mut [R::State],
     row: &mut [R::Letter],
 ) -> Result<u16, Refusal>
-    ensures call { (result, states.exit.now) ≡ recount_call (R.Rule.behaviour rule.now) values.now book.now round (record { states = states.entry.now; scratch = scratch.old; row = row.old }) }
+    ensures call { (result, states.new) ≡ recount_call (R.Rule.behaviour rule.now) values.now book.now round (record { states = states.old; scratch = scratch.old; row = row.old }) }
     ensures refused { is_ok result ≡ false → (scratch.new ≡ scratch.old) × (row.new ≡ row.old) }
-    ensures agrees { Agrees (R.Rule.behaviour rule.now) values.now book.now round (record { states = states.entry.now; scratch = scratch.old; row = row.old }) result states.exit.now }
+    ensures agrees { Agrees (R.Rule.behaviour rule.now) values.now book.now round (record { states = states.old; scratch = scratch.old; row = row.old }) result states.new }
 {
     let shortest = states.len().min(scratch.len()).min(row.len());
     check(rule, values.len(), shortest, round > LAST_ROUND)?;
