@@ -1,5 +1,5 @@
 -- Lists by places, the element that is taken out of two lists alike, and the cells of the letter rows. Assumes nothing.
-use Rattle.std.proofs.Common.{◌≡◌, ℕ, zero, suc, ◌+◌, ◌-◌, ◌*◌, ◌/◌, ◌%◌, ◌<◌, ◌≤◌, List, [], ◌∷◌, length, get_or, set, replicate, Some, sym, refl, ap, ◌∙◌, inl, inr, arith}
+use Rattle.std.proofs.Common.{◌≡◌, ℕ, zero, suc, ◌+◌, ◌-◌, ◌*◌, ◌/◌, ◌%◌, ◌<◌, ◌≤◌, List, [], ◌∷◌, length, get_or, set, Some, sym, refl, ap, ◌∙◌, inl, inr, arith}
 use Rattle.std.specs.List.{slice_get}
 use Rattle.std.proofs.lemmas.List.{length-set, get_or-set_same, get_or-set_other, get_or-take, length-take-le}
 use Rattle.std.proofs.lemmas.Option.{slice_get-get_or}
@@ -19,11 +19,6 @@ module _ {A : Type 0} where
   nth_set_other (y ∷ xs) zero (suc j) x h = refl
   nth_set_other (y ∷ xs) (suc i) zero x h = refl
   nth_set_other (y ∷ xs) (suc i) (suc j) x h = nth_set_other xs i j x (λ e. h (ap suc e))
-
-  pub get_or_replicate_all : (m i : ℕ) (a : A) → get_or (replicate m a) i a ≡ a
-  get_or_replicate_all zero i a = refl
-  get_or_replicate_all (suc m) zero a = refl
-  get_or_replicate_all (suc m) (suc i) a = get_or_replicate_all m i a
 
 -- where the element at place i comes from, after the one at k is taken out of two lists alike
 module _ {A B : Type 0} (a : A) (b : B) (xs : List A) (ys : List B) (c k : ℕ) (ex : length xs ≡ c) (ey : c ≤ length ys) (h : k < c) where

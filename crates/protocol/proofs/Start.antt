@@ -7,8 +7,7 @@ use Rattle.rules.specs.Rule.{Behaviour, Interface, lockstep}
 use Rattle.protocol.specs.World.{World, blank, station}
 use Rattle.protocol.specs.Calls.{open_refusal, opened, state_of}
 use Rattle.protocol.specs.Tally.{start}
-use Rattle.rules.proofs.Tables.{get_or_written}
-use Rattle.protocol.proofs.Places.{get_or_replicate_all}
+use Rattle.rules.proofs.Tables.{get_or_written, get_or_replicate_all}
 use Rattle.rules.proofs.Options.{passed, none_some}
 use Rattle.protocol.proofs.Invariant.{Inv, Seated}
 

@@ -14,8 +14,7 @@ use Rattle.protocol.specs.World.{World, station, blank}
 use Rattle.protocol.specs.Calls.{step, cell, state_of, is_fresh, is_down, mailbox_of, turn_refusal, turned}
 use Rattle.protocol.specs.Tally.{Tally, Triple, heard_in, tally_accepted}
 use Rattle.protocol.specs.Guarantee.{entry}
-use Rattle.rules.proofs.Tables.{length_tabulate, get_or_tabulate, tabulate_same}
-use Rattle.protocol.proofs.Places.{get_or_replicate_all}
+use Rattle.rules.proofs.Tables.{length_tabulate, get_or_tabulate, get_or_replicate_all, tabulate_same}
 use Rattle.protocol.proofs.Words.{Whole}
 use Rattle.rules.proofs.Runs.{Known, run_grows}
 use Rattle.rules.proofs.Options.{passed}

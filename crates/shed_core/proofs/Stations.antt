@@ -6,7 +6,7 @@ use Rattle.protocol.specs.World.{blank}
 use Rattle.protocol.specs.Calls.{due}
 use Rattle.rules.proofs.Options.{none_some, same_some}
 use Rattle.protocol.proofs.Holds.{due_some}
-use Rattle.protocol.proofs.Places.{get_or_replicate_all}
+use Rattle.rules.proofs.Tables.{get_or_replicate_all}
 
 at_all : (P : Record → Type 0) (rs : List Record) (p q : ℕ) (r : Record) → P (get_or rs q blank) → P r → P (get_or (set rs p r) q blank)
 at_all P [] p q r x y = x
