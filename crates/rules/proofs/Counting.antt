@@ -1,7 +1,7 @@
 -- How many stations pass a test, and why two large groups of them overlap. Assumes nothing.
-use Rattle.std.proofs.Common.{◌≡◌, ℕ, zero, suc, ◌+◌, ◌<◌, ◌≤◌, Bool, true, false, cond, List, [], ◌∷◌, length, get_or, count_by, refl, ap, ◌∙◌, arith}
+use Rattle.std.proofs.Common.{◌≡◌, ℕ, zero, suc, ◌+◌, ◌<◌, ◌≤◌, Bool, true, false, cond, List, [], ◌∷◌, length, get_or, count_by, refl, inl, inr, arith}
 use Rattle.std.proofs.lemmas.List.Sums.{sum_by-cons}
-use Rattle.std.proofs.lemmas.Bool.{false≢true}
+use Rattle.std.proofs.lemmas.Bool.{cases_Bool}
 use Rattle.rules.specs.Lists.{tabulate}
 
 -- how many stations below n pass f
@@ -11,48 +11,43 @@ count (suc n) f = cond (f zero) 1 0 + count n (λ q. f (suc q))
 
 pub count_all : (n : ℕ) → count n (λ _. true) ≡ n
 count_all zero = refl
-count_all (suc n) = let h : count n (λ _. true) ≡ n = count_all n in omega arith
+count_all (suc n) = omega (arith, count_all n)
 
 pub count_none : (n : ℕ) → count n (λ _. false) ≡ 0
 count_none zero = refl
-count_none (suc n) = let h : count n (λ _. false) ≡ 0 = count_none n in omega arith
+count_none (suc n) = omega (arith, count_none n)
 
 head_overlap : (a b c : Bool) → (a ≡ true → b ≡ true → c ≡ true) → cond a 1 0 + cond b 1 0 ≤ 1 + cond c 1 0
-head_overlap false false c h = omega arith
-head_overlap false true c h = omega arith
-head_overlap true false c h = omega arith
-head_overlap true true false h = absurd (false≢true (h refl refl))
-head_overlap true true true h = omega arith
+head_overlap a b c h = grind arith
 
 -- those that pass f and those that pass g are together at most n and those that pass both; with g always true: a weaker
 -- test passes no fewer; with h never true: groups that do not meet are together at most n
 pub overlap : (n : ℕ) (f g h : ℕ → Bool) → ((q : ℕ) → q < n → f q ≡ true → g q ≡ true → h q ≡ true) → count n f + count n g ≤ n + count n h
 overlap zero f g h both = omega arith
 overlap (suc n) f g h both =
-    let ih : count n (λ q. f (suc q)) + count n (λ q. g (suc q)) ≤ n + count n (λ q. h (suc q)) = overlap n (λ q. f (suc q)) (λ q. g (suc q)) (λ q. h (suc q)) (λ q l. both (suc q) (omega arith)) in
-    let hd : cond (f zero) 1 0 + cond (g zero) 1 0 ≤ 1 + cond (h zero) 1 0 = head_overlap (f zero) (g zero) (h zero) (both zero (omega arith)) in
+    let head = head_overlap (f zero) (g zero) (h zero) (both zero (omega arith)) in
+    let rest = overlap n (λ q. f (suc q)) (λ q. g (suc q)) (λ q. h (suc q)) (λ q l. both (suc q) (omega arith)) in
     omega arith
 
 -- if some pass, one does
 pub witness : (n : ℕ) (f : ℕ → Bool) → 0 < count n f → (q : ℕ) × (q < n) × (f q ≡ true)
 witness zero f h = absurd (omega arith)
-witness (suc n) f h = go (f zero) refl (witness n (λ q. f (suc q)))
-  where
-    go : (b : Bool) → f zero ≡ b → (0 < count n (λ q. f (suc q)) → (q : ℕ) × (q < n) × (f (suc q) ≡ true)) → (q : ℕ) × (q < suc n) × (f q ≡ true)
-    go true e later = (zero, omega arith, e)
-    go false e later =
-        let more : 0 < 0 + count n (λ q. f (suc q)) = rw e at h in
-        let w = later (omega arith) in (suc w.0, omega arith, w.2)
+witness (suc n) f h = elim (cases_Bool (f zero)) [
+  | inl e ↦ (zero, omega arith, e)
+  | inr e ↦
+      let more = rw e at h in
+      let w = witness n (λ q. f (suc q)) (omega arith) in
+      (suc w.0, omega (arith, w.1), w.2)
+]
 
 -- ---- counts over a list
 pub count_by_tabulate : {A : Type 0} (p : A → Bool) (n : ℕ) (f : ℕ → A) → count_by p (tabulate n f) ≡ count n (λ q. p (f q))
 count_by_tabulate p zero f = refl
-count_by_tabulate p (suc n) f =
-    sum_by-cons (λ x. cond (p x) 1 0) (f zero) (tabulate n (λ q. f (suc q))) ∙ ap (λ k. cond (p (f zero)) 1 0 + k) (count_by_tabulate p n (λ q. f (suc q)))
+count_by_tabulate p (suc n) f = omega (arith, sum_by-cons (λ x. cond (p x) 1 0) (f zero) (tabulate n (λ q. f (suc q))), count_by_tabulate p n (λ q. f (suc q)))
 
 pub count_by_count : {A : Type 0} (p : A → Bool) (d : A) (xs : List A) → count_by p xs ≡ count (length xs) (λ q. p (get_or xs q d))
 count_by_count p d [] = refl
-count_by_count p d (x ∷ xs) = sum_by-cons (λ x. cond (p x) 1 0) x xs ∙ ap (λ k. cond (p x) 1 0 + k) (count_by_count p d xs)
+count_by_count p d (x ∷ xs) = omega (arith, sum_by-cons (λ x. cond (p x) 1 0) x xs, count_by_count p d xs)
 
 -- if the count over a list is not 0, a place of it passes
 pub found_by : {A : Type 0} (p : A → Bool) (d : A) (xs : List A) → 0 < count_by p xs → (q : ℕ) × (q < length xs) × (p (get_or xs q d) ≡ true)

@@ -1,8 +1,9 @@
 -- What an equation between options, or one of a `cond` with an option, tells. Assumes nothing.
-use Rattle.std.proofs.Common.{◌≡◌, ℕ, Bool, true, false, cond, Some, None, Option, refl, arith}
+use Rattle.std.proofs.Common.{◌≡◌, Bool, true, false, cond, Some, None, Option, sym, refl}
+use Rattle.std.proofs.lemmas.Option.{none-some}
 
 pub none_some : {X : Type 0} {A : Type 0} {a : A} → ◌≡◌ {A = Option A} None (Some a) → X
-none_some e = let z : ◌≡◌ {A = ℕ} 0 1 = cc in absurd (omega arith)
+none_some e = absurd (none-some _ e)
 
 pub same_some : {A : Type 0} {a b : A} → Some a ≡ Some b → a ≡ b
 same_some e = cc
@@ -19,5 +20,5 @@ unless false y a e = (refl, e)
 
 -- the first of an ordered list of refusals was passed: its test failed, and so did the rest
 pub passed : {A : Type 0} (t : Bool) (a : A) (rest : Option A) → cond t (Some a) rest ≡ None → (t ≡ false) × (rest ≡ None)
-passed true a rest e = let z : ◌≡◌ {A = ℕ} 0 1 = cc in absurd (omega arith)
+passed true a rest e = none_some (sym e)
 passed false a rest e = (refl, e)

@@ -54,7 +54,7 @@ module _ {S L : Type 0} (R : Behaviour S L) (values : List ℕ) where
   pub hull_stays :
       Stable R → (H : Heard) (p x : ℕ) (k m : ℕ) → k ≤ m → R.hull (lockstep R values H k p) ≡ Some x → R.hull (lockstep R values H m p) ≡ Some x
   unfolding lockstep
-  hull_stays stable H p x k zero h e = let z : k ≡ 0 = omega arith in subst (λ i. R.hull (lockstep R values H i p) ≡ Some x) z e
+  hull_stays stable H p x k zero h e = let z : 0 ≡ k = omega arith in rw z e
   hull_stays stable H p x k (suc m) h e = elim (cases_eq k (suc m)) [
     | inl z ↦ subst (λ i. R.hull (lockstep R values H i p) ≡ Some x) z e
     | inr z ↦ stable (length values) p m x (lockstep R values H m p) (mailbox R (length values) p m (H p m) (lockstep R values H m)) (hull_stays stable H p x k m (omega arith) e)

@@ -17,10 +17,7 @@ module _ {A : Type 0} where
 
   pub tabulate_same : (n : ℕ) (f g : ℕ → A) → ((i : ℕ) → i < n → f i ≡ g i) → tabulate n f ≡ tabulate n g
   tabulate_same zero f g e = refl
-  tabulate_same (suc n) f g e =
-      let here : f 0 ≡ g 0 = e 0 (omega arith) in
-      let rest : tabulate n (λ k. f (suc k)) ≡ tabulate n (λ k. g (suc k)) = tabulate_same n (λ k. f (suc k)) (λ k. g (suc k)) (λ i h. e (suc i) (omega arith)) in
-      cc
+  tabulate_same (suc n) f g e = cc (e 0 (omega arith), tabulate_same n (λ k. f (suc k)) (λ k. g (suc k)) (λ i h. e (suc i) (omega arith)))
 
   pub tabulate_more : (n : ℕ) (f : ℕ → A) → tabulate (suc n) f ≡ tabulate n f ++ f n ∷ []
   tabulate_more zero f = refl
@@ -30,12 +27,9 @@ module _ {A : Type 0} where
   pub tabulate_set : (n : ℕ) (f g : ℕ → A) (i : ℕ) (v : A) → i < n → g i ≡ v → ((p : ℕ) → p < n → (p ≡ i → ⊥) → g p ≡ f p) → set (tabulate n f) i v ≡ tabulate n g
   tabulate_set zero f g i v h here there = absurd (omega arith)
   tabulate_set (suc n) f g zero v h here there =
-      let rest : tabulate n (λ k. f (suc k)) ≡ tabulate n (λ k. g (suc k)) = tabulate_same n (λ k. f (suc k)) (λ k. g (suc k)) (λ p l. sym (there (suc p) (omega arith) (λ e. omega arith))) in
-      cc
+      cc (tabulate_same n (λ k. f (suc k)) (λ k. g (suc k)) (λ p l. sym (there (suc p) (omega arith) (λ e. omega arith))))
   tabulate_set (suc n) f g (suc i) v h here there =
-      let first : g 0 ≡ f 0 = there 0 (omega arith) (λ e. omega arith) in
-      let rest : set (tabulate n (λ k. f (suc k))) i v ≡ tabulate n (λ k. g (suc k)) = tabulate_set n (λ k. f (suc k)) (λ k. g (suc k)) i v (omega arith) here (λ p l e. there (suc p) (omega arith) (λ z. e (omega arith))) in
-      cc
+      cc (there 0 (omega arith) (λ e. omega arith), tabulate_set n (λ k. f (suc k)) (λ k. g (suc k)) i v (omega arith) here (λ p l e. there (suc p) (omega arith) (λ z. e (omega arith))))
 
   -- ---- one value at every place
   pub get_or_replicate_all : (m i : ℕ) (a : A) → get_or (replicate m a) i a ≡ a
@@ -118,6 +112,4 @@ module _ {A : Type 0} where
 pub at_tabulate : {A : Type 0} (n : ℕ) (f : ℕ → Option A) (q : ℕ) (a : A) → get_or (tabulate n f) q None ≡ Some a → (q < n) × (f q ≡ Some a)
 at_tabulate zero f q a e = none_some e
 at_tabulate (suc n) f zero a e = (omega arith, e)
-at_tabulate {A} (suc n) f (suc q) a e =
-    let r : (q < n) × (f (suc q) ≡ Some a) = at_tabulate n (λ k. f (suc k)) q a e in
-    (omega arith, r.1)
+at_tabulate (suc n) f (suc q) a e = let r = at_tabulate n (λ k. f (suc k)) q a e in (omega (arith, r.0), r.1)

@@ -79,6 +79,7 @@ pub fn first_states<R: Rule>(rule: &R, values: &[u16], states: &mut [R::State])
     ensures { states.new ≡ put states.old 0 (tabulate (length values.now)
         (λ p. (R.Rule.behaviour rule.now).first (length values.now) p (slice_index values.now p))) }
 {
+    // by index: what is written through a `zip` of `iter_mut()` no proof knows afterwards
     for (station, value) in values.iter().enumerate() {
         if station < states.len() {
             states[station] = rule.first(values.len(), station, *value);
@@ -99,11 +100,5 @@ pub fn count_letters<L>(mailbox: &[Option<L>]) -> usize
     ensures value { result ≡ count_by is_some mailbox.now }
     ensures bound { result ≤ length mailbox.now }
 {
-    let mut count = 0;
-    for letter in mailbox {
-        if letter.is_some() {
-            count += 1;
-        }
-    }
-    count
+    mailbox.iter().filter(|letter| letter.is_some()).count()
 }
