@@ -1,7 +1,7 @@
 // OneThirdRule: a station that hears more than two thirds of the stations takes the value that it hears most often.
 #![tactic(auto)]
 
-ghost use Rattle.std.specs.Prelude.{◌≡◌, ℕ, ◌≤◌, false, length, None, slice_index, slice_index_or};
+ghost use Rattle.std.specs.Prelude.{◌≡◌, ℕ, ◌*◌, ◌≤◌, false, length, None, nat_lt, slice_index, slice_index_or};
 ghost use Rattle.rules.specs.Rule.{outside};
 ghost use Rattle.third.specs.Third.{third, occurs, times, before, most_frequent, quorum_value, Moves};
 ghost use Rattle.third.specs.Laws.{third_interface, third_laws};
@@ -10,14 +10,14 @@ ghost use Rattle.std.proofs.Common.{rules};
 use rules::{Rule, count_letters, is_outside};
 
 // A station's state: the value that it votes for, and the hull that it shows.
-#[derive(Clone, Copy)]
+#[derive(Clone, Copy, Debug, PartialEq, Eq)]
 pub struct State {
     pub value: u16,
     pub hull: Option<u16>,
 }
 
 // A letter: its sender's value.
-#[derive(Clone, Copy)]
+#[derive(Clone, Copy, Debug, PartialEq, Eq)]
 pub struct Letter {
     pub value: u16,
 }
@@ -27,71 +27,82 @@ fn count_of(value: u16, mailbox: &[Option<Letter>]) -> usize
     ensures value { result ≡ occurs value mailbox.now }
     ensures bound { result ≤ length mailbox.now }
 {
-    let mut count = 0;
-    for letter in mailbox {
-        if let Some(l) = letter {
-            if l.value == value {
-                count += 1;
-            }
-        }
-    }
-    count
-}
-
-// By sender, how often the value of its letter occurs; 0 for a sender without a letter.
-fn count_each(mailbox: &[Option<Letter>]) -> [usize; 16]
-    requires { length mailbox.now ≤ 16 }
-    ensures counts { (q : ℕ) → slice_index result q ≡ times mailbox.now (slice_index_or mailbox.now q None) }
-    ensures len { length result ≡ 16 }
-{
-    let mut counts = [0; 16];
-    for (sender, letter) in mailbox.iter().enumerate() {
-        if let Some(l) = letter {
-            counts[sender] = count_of(l.value, mailbox);
-        }
-    }
-    counts
+    let letter = Some(Letter { value });
+    mailbox.iter().filter(|place| **place == letter).count()
 }
 
 // Whether a value goes before the best so far: it occurs more often, or as often and is smaller.
 fn goes_before(count: usize, value: u16, most: usize, best: u16) -> bool
     ensures { result ≡ before count value most best }
 {
-    count > most || (count == most && value < best)
+    (most, value) < (count, best)
 }
 
-// The value that occurs most often, the smallest of these in a tie; `own` if there is no letter.
-fn commonest(mailbox: &[Option<Letter>], counts: &[usize; 16], own: u16) -> u16
-    requires { (length mailbox.now ≤ 16) × (((q : ℕ) → slice_index counts.now q ≡ times mailbox.now (slice_index_or mailbox.now q None))) }
-    ensures { result ≡ most_frequent mailbox.now own }
+// Whether so many are more than two thirds of n stations.
+fn is_quorum(count: usize, n: usize) -> bool
+    requires few_letters { count ≤ 16 }
+    requires few_stations { n ≤ 16 }
+    ensures { result ≡ nat_lt (2 * n) (3 * count) }
 {
-    let mut best = own;
-    let mut most = count_of(own, mailbox);
-    for (sender, letter) in mailbox.iter().enumerate() {
-        if let Some(l) = letter {
-            let count = counts[sender];
-            if goes_before(count, l.value, most, best) {
-                best = l.value;
-                most = count;
-            }
-        }
-    }
-    best
+    3 * count > 2 * n
 }
 
-// The value that more than two thirds of the n stations are heard with, or none.
-fn quorum(n: usize, mailbox: &[Option<Letter>], counts: &[usize; 16]) -> Option<u16>
-    requires { (n ≤ 16) × ((length mailbox.now ≤ 16) × (((q : ℕ) → slice_index counts.now q ≡ times mailbox.now (slice_index_or mailbox.now q None)))) }
-    ensures { result ≡ quorum_value n mailbox.now }
-{
-    for (sender, letter) in mailbox.iter().enumerate() {
-        if let Some(l) = letter {
-            if 3 * counts[sender] > 2 * n {
-                return Some(l.value);
+// A mailbox, and by sender how often the value of its letter occurs; 0 for a sender without a letter.
+#[derive(Clone, Copy)]
+struct Tally<'a> {
+    mailbox: &'a [Option<Letter>],
+    counts: [usize; 16],
+    ghost few: { length mailbox.now ≤ 16 },
+    ghost counted: { (q : ℕ) → slice_index counts q ≡ times mailbox.now (slice_index_or mailbox.now q None) },
+}
+
+impl<'a> Tally<'a> {
+    // Counts a mailbox.
+    fn of(mailbox: &'a [Option<Letter>]) -> Tally<'a>
+        requires { length mailbox.now ≤ 16 }
+        ensures { result.mailbox.now ≡ mailbox.now }
+    {
+        let mut counts = [0; 16];
+        for (sender, letter) in mailbox.iter().enumerate() {
+            if let Some(l) = letter {
+                counts[sender] = count_of(l.value, mailbox);
             }
         }
+        Tally { mailbox, counts }
     }
-    None
+
+    // The value that occurs most often, the smallest of these in a tie; `own` if there is no letter.
+    fn commonest(&self, own: u16) -> u16
+        ensures { result ≡ most_frequent self.now.mailbox.now own }
+    {
+        let mut best = own;
+        let mut most = count_of(own, self.mailbox);
+        for (sender, letter) in self.mailbox.iter().enumerate() {
+            if let Some(l) = letter {
+                let count = self.counts[sender];
+                if goes_before(count, l.value, most, best) {
+                    best = l.value;
+                    most = count;
+                }
+            }
+        }
+        best
+    }
+
+    // The value that more than two thirds of the n stations are heard with, or none.
+    fn quorum(&self, n: usize) -> Option<u16>
+        requires { n ≤ 16 }
+        ensures { result ≡ quorum_value n self.now.mailbox.now }
+    {
+        for (sender, letter) in self.mailbox.iter().enumerate() {
+            if let Some(l) = letter {
+                if is_quorum(self.counts[sender], n) {
+                    return Some(l.value);
+                }
+            }
+        }
+        None
+    }
 }
 
 // The rule.
@@ -150,16 +161,13 @@ impl Rule for Third {
         if is_outside(Self::MAX_STATIONS, n, station, round) || mailbox.len() != n {
             return *state;
         }
-        let counts = count_each(mailbox);
-        let value = if 3 * count_letters(mailbox) > 2 * n {
-            commonest(mailbox, &counts, state.value)
+        let tally = Tally::of(mailbox);
+        let value = if is_quorum(count_letters(mailbox), n) {
+            tally.commonest(state.value)
         } else {
             state.value
         };
-        let hull = match state.hull {
-            Some(h) => Some(h),
-            None => quorum(n, mailbox, &counts),
-        };
+        let hull = state.hull.or(tally.quorum(n));
         State { value, hull }
     }
 
@@ -169,15 +177,14 @@ impl Rule for Third {
 
     // The value in 16 bits, then 28 zero bits.
     fn pack(&self, letter: &Letter) -> u64 {
-        (letter.value as u64) << 28
+        u64::from(letter.value) << 28
     }
 
     fn unpack(&self, word: u64) -> Option<Letter> {
-        if word % (1 << 28) != 0 || word >> 44 != 0 {
+        if word % (1 << 28) != 0 {
             return None;
         }
-        Some(Letter {
-            value: (word >> 28) as u16,
-        })
+        let value = u16::try_from(word >> 28).ok()?;
+        Some(Letter { value })
     }
 }
