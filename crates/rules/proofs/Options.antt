@@ -1,6 +1,10 @@
--- What an equation between options, or one of a `cond` with an option, tells. Assumes nothing.
-use Rattle.std.proofs.Common.{◌≡◌, Bool, true, false, cond, Some, None, Option, sym, refl}
+-- What a test, an equation between options, or one of a `cond` with an option, tells. Assumes nothing.
+use Rattle.std.proofs.Common.{◌≡◌, Bool, true, false, cond, T, Some, None, Option, sym, refl}
 use Rattle.std.proofs.lemmas.Option.{none-some}
+
+pub holds : (b : Bool) → T b → b ≡ true
+holds true t = refl
+holds false t = absurd t
 
 pub none_some : {X : Type 0} {A : Type 0} {a : A} → ◌≡◌ {A = Option A} None (Some a) → X
 none_some e = absurd (none-some _ e)

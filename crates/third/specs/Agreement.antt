@@ -1,14 +1,15 @@
 -- In a lockstep run a value of more than two thirds of the stations stays, and a hull is such a value. Assumes nothing.
 use Rattle.std.specs.Prelude.{◌≡◌, ℕ, zero, suc, ◌+◌, ◌*◌, ◌<◌, ◌≤◌, Bool, true, false, cond, not, ◌||◌, ◌⊎◌, List, length, is_some, Some, None, Option, ◌==◌, nat_eq, nat_le, nat_lt, slice_index, refl}
-use Rattle.std.proofs.Common.{sym, ◌∙◌}
+use Rattle.std.proofs.Common.{◌∙◌}
 use Rattle.std.proofs.Math.Logic.{inl, inr}
 use native.Mathlib.Omega.{arith}
-use Rattle.std.proofs.lemmas.Bool.{false≢true, ltb-true, eqb-true, eq-eqb, cases_eq, cases_lt, cond_both}
+use Rattle.std.proofs.lemmas.Bool.{ltb-true, eqb-true, eq-eqb, cases_eq, cases_lt, cond_both}
 use Rattle.rules.specs.Lists.{tabulate}
 use Rattle.rules.specs.Rule.{Heard, lockstep, outside, Agreement, Validity}
 use Rattle.third.specs.declared.Letter.{Letter}
 use Rattle.third.specs.declared.State.{State}
 use Rattle.third.specs.Third.{third, says, heard, occurs, most_frequent, quorum_value, first_of, next_value}
+use Rattle.rules.proofs.Options.{none_some}
 use Rattle.rules.proofs.Counting.{count, count_all, count_none, overlap, witness, count_by_tabulate}
 use Rattle.third.specs.Mailbox.{winner_most, winner_heard, quorum_occurs}
 
@@ -18,14 +19,10 @@ by_next P n p k s m old new = cond_both (outside 16 n p k || not (length m == n)
 
 -- a place of a mailbox says what its sender's value is
 said : (b c : Bool) (x v : ℕ) → says v (cond b (cond c None (Some (record { value = x }))) None) ≡ true → (x == v) ≡ true
-said true true x v h = absurd (false≢true h)
-said true false x v h = h
-said false c x v h = absurd (false≢true h)
+said b c x v h = grind arith
 
 saying : (b c : Bool) (x v : ℕ) → is_some {T = Letter} (cond b (cond c None (Some (record { value = x }))) None) ≡ true → (x == v) ≡ true → says v (cond b (cond c None (Some (record { value = x }))) None) ≡ true
-saying true true x v h e = absurd (false≢true h)
-saying true false x v h e = e
-saying false c x v h e = absurd (false≢true h)
+saying b c x v h e = grind arith
 
 first_came : (a b : Option ℕ) (v : ℕ) → first_of a b ≡ Some v → (a ≡ Some v) ⊎ (b ≡ Some v)
 first_came (Some h) b v e = inl e
@@ -57,7 +54,7 @@ module _ (values : List ℕ) (H : Heard) where
       let n = length values in
       let c = count_by_tabulate (says v) n (place k p) in
       let o = overlap n (λ q. says v (place k p q)) (λ _. true) (λ q. nat_eq (value_of k q) v) (λ q _ h _. place_said k p q v h) in
-      omega (arith, c, o, count_all n)
+      omega (arith, count_all n)
 
   -- a station that hears enough takes the value of more than two thirds
   takes : (k p v d : ℕ) → Locked k v → 2 * length values < 3 * heard (mail k p) → most_frequent (mail k p) d ≡ v
@@ -71,8 +68,8 @@ module _ (values : List ℕ) (H : Heard) where
             let a = overlap n (λ q. is_some (place k p q)) (λ q. nat_eq (value_of k q) v) (λ q. says v (place k p q))
             (λ q _ f e. saying (H p k q) (outside 16 n q k || nat_le n p) (value_of k q) v f e) in
             let b = overlap n (λ q. says w (place k p q)) (λ q. nat_eq (value_of k q) v) (λ _. false)
-            (λ q _ f e. absurd (apart (sym (eqb-true (value_of k q) w (place_said k p q w f)) ∙ eqb-true (value_of k q) v e))) in
-            absurd (omega (arith, a, b, count_none n, winner_most m d v, count_by_tabulate is_some n (place k p), count_by_tabulate (says v) n (place k p), count_by_tabulate (says w) n (place k p)))
+            (λ q _ f e. let there = place_said k p q w f in absurd (omega (arith, eqb-true))) in
+            absurd (omega (arith, count_none n, winner_most m d v, count_by_tabulate is_some n (place k p), count_by_tabulate (says v) n (place k p), count_by_tabulate (says w) n (place k p)))
       ]
 
   keeps : (k p v : ℕ) → Locked k v → value_of k p ≡ v → value_of (suc k) p ≡ v
@@ -89,7 +86,7 @@ module _ (values : List ℕ) (H : Heard) where
       let n = length values in
       let o = overlap n (λ q. nat_eq (value_of k q) v) (λ _. true) (λ q. nat_eq (value_of (suc k) q) v)
       (λ q _ h _. eq-eqb (value_of (suc k) q) v (keeps k q v lock (eqb-true (value_of k q) v h))) in
-      omega (arith, o, count_all n)
+      omega (arith, count_all n)
 
   hull_came : (k p v : ℕ) → (lockstep third values H (suc k) p).hull ≡ Some v → ((lockstep third values H k p).hull ≡ Some v) ⊎ (quorum_value (length values) (mail k p) ≡ Some v)
   unfolding lockstep
@@ -101,7 +98,7 @@ module _ (values : List ℕ) (H : Heard) where
 
   hull_locked : (k p v : ℕ) → (lockstep third values H k p).hull ≡ Some v → Locked k v
   unfolding lockstep
-  hull_locked zero p v h = let z : ◌≡◌ {A = ℕ} 0 1 = cc in omega arith
+  hull_locked zero p v h = none_some h
   hull_locked (suc k) p v h =
       locked_next k v (elim (hull_came k p v h) [
         | inl old ↦ hull_locked k p v old
@@ -121,8 +118,8 @@ module _ (values : List ℕ) (H : Heard) where
     | inr apart ↦
         let n = length values in
         let o = overlap n (λ q. nat_eq (value_of k q) a) (λ q. nat_eq (value_of k q) b) (λ _. false)
-        (λ q _ e f. absurd (apart (sym (eqb-true (value_of k q) a e) ∙ eqb-true (value_of k q) b f))) in
-        absurd (omega (arith, o, count_none n))
+        (λ q _ e f. absurd (omega (arith, eqb-true))) in
+        absurd (omega (arith, count_none n))
   ]
 
   -- each value is an opening value

@@ -1,27 +1,16 @@
 -- OneThirdRule's interface and laws. Assumes nothing.
-use Rattle.std.specs.Prelude.{◌≡◌, ℕ, ◌*◌, ◌/◌, ◌%◌, ◌^◌, ◌<◌, Bool, true, false, cond, not, ◌&&◌, ◌||◌, T, length, Some, None, Option, ◌==◌, nat_le, nat_lt, slice_index_or, refl}
-use Rattle.std.proofs.Common.{ap, subst, ◌∙◌, arith, ltb→lt, lt→ltb}
-use Rattle.std.proofs.lemmas.Bool.{false≢true, ltb-true, lt-ltb, eqb-true, eq-eqb, ne_eqb, cond_both, cond-true, and_from, and_parts}
+use Rattle.std.specs.Prelude.{◌≡◌, ℕ, ◌*◌, ◌^◌, ◌<◌, Bool, true, cond, ◌||◌, T, Some, None, Option, nat_le, nat_lt, slice_index_or, refl}
+use Rattle.std.proofs.Common.{ap, subst, arith, ltb→lt, lt→ltb}
+use Rattle.std.proofs.lemmas.Bool.{false≢true, ltb-true, eqb-true, ne_eqb, cond_both, cond-true, or_left, or_right, not_from_false}
+use Rattle.std.proofs.lemmas.Bool.Decides.{nat_tests}
 use Rattle.rules.specs.Rule.{Interface, Laws, Codec, Stable, outside}
 use Rattle.third.specs.declared.Letter.{Letter}
 use Rattle.third.specs.declared.State.{State}
 use Rattle.third.specs.Third.{third, says, heard, most_frequent, quorum_value, first_of}
 use Rattle.rules.proofs.Counting.{found_by}
 use Rattle.third.specs.Mailbox.{winner_heard}
-use Rattle.rules.proofs.Options.{only, unless, same_some}
+use Rattle.rules.proofs.Options.{holds, unless, same_some}
 use Rattle.third.specs.Agreement.{by_next, third_agreement, third_validity}
-
-cond_T : {A : Type 0} (b : Bool) (x y : A) → T b → cond b x y ≡ x
-cond_T true x y t = refl
-cond_T false x y t = absurd t
-
-or_T : {A : Type 0} (b c : Bool) (x y : A) → T b → cond (b || c) x y ≡ x
-or_T true c x y t = refl
-or_T false c x y t = absurd t
-
-or_not : {A : Type 0} (b c : Bool) (x y : A) → c ≡ false → cond (b || not c) x y ≡ x
-or_not true c x y e = refl
-or_not false c x y e = cond-true (not c) x y (ap not e)
 
 -- what a letter carries
 sent : (b : Bool) (x : ℕ) (l : Letter) → ◌≡◌ {A = Option Letter} (cond b None (Some (record { value = x }))) (Some l) → x ≡ l.value
@@ -39,9 +28,9 @@ pub third_interface : Interface third
 third_interface = record {
   most_some = omega arith;
   most_few = omega arith;
-  no_letter = λ n p k q s t. cond_T (outside 16 n p k || nat_le n q) None _ t;
-  stays = λ n p k s m t. or_T (outside 16 n p k) (not (length m == n)) s _ t;
-  stays_misfit = λ n p k s m h. or_not (outside 16 n p k) (length m == n) s _ (ne_eqb (length m) n h);
+  no_letter = λ n p k q s t. cond-true _ _ _ (holds _ t);
+  stays = λ n p k s m t. cond-true _ _ _ (or_left _ _ (holds _ t));
+  stays_misfit = λ n p k s m h. cond-true _ _ _ (or_right _ _ (not_from_false _ (ne_eqb _ _ h)));
   first_fits = λ n p v h. lt→ltb v (2 ^ 16) h;
   sent_fits = λ n p k q s l t e. subst Fits16 (sent (outside 16 n p k || nat_le n q) s.value l e) t;
   next_fits = λ n p k s m t fits.
@@ -57,18 +46,17 @@ third_interface = record {
       (λ _. t));
 }
 
+reads_back : (l : Letter) → l.value < 2 ^ 16 → third.unpack (third.pack l) ≡ Some l
+reads_back l small = grind (arith, nat_tests)
+
+packs_again : (w : ℕ) (l : Letter) → third.unpack w ≡ Some l → third.pack l ≡ w
+packs_again w l e = grind (arith, nat_tests)
+
 third_codec : Codec third
 third_codec = record {
   small = λ l t. omega (arith, ltb→lt l.value (2 ^ 16) t);
-  back = λ l t.
-      let v = l.value in
-      let whole : v * 2 ^ 28 / 2 ^ 28 ≡ v = omega arith in
-      cond-true _ _ _ (and_from _ _ (eq-eqb (v * 2 ^ 28 % 2 ^ 28) 0 (omega arith)) (lt-ltb (v * 2 ^ 28 / 2 ^ 28) (2 ^ 16) (omega (arith, ltb→lt v (2 ^ 16) t))))
-      ∙ ap (λ (x : ℕ). Some (record { value = x })) whole;
-  again = λ w l e.
-      let r = only (w % 2 ^ 28 == 0 && nat_lt (w / 2 ^ 28) (2 ^ 16)) _ l e in
-      let same : w / 2 ^ 28 ≡ l.value = let f = r.1 in cc in
-      omega (arith, eqb-true (w % 2 ^ 28) 0 (and_parts _ _ r.0).0);
+  back = λ l t. reads_back l (ltb→lt l.value (2 ^ 16) t);
+  again = packs_again;
 }
 
 third_stable : Stable third

@@ -1,12 +1,14 @@
 -- What the counts of a mailbox give: the winner is the value that occurs most often, the smallest of these in a tie, and a quorum's value is the one that occurs often enough.
 -- Assumes nothing.
-use Rattle.std.specs.Prelude.{◌≡◌, ℕ, zero, suc, ◌*◌, ◌<◌, ◌≤◌, Bool, true, false, cond, ◌&&◌, [], ◌∷◌, length, is_some, Some, None, fold, Option, ◌==◌, nat_lt, slice_index_or, refl}
+use Rattle.std.specs.Prelude.{◌≡◌, ℕ, zero, suc, ◌*◌, ◌<◌, ◌≤◌, true, false, cond, [], ◌∷◌, length, is_some, Some, None, fold, Option, nat_lt, slice_index_or, refl}
 use Rattle.std.proofs.Common.{sym, ap, ◌∙◌, inl, inr, arith}
 use Rattle.std.proofs.lemmas.List.Sums.{get_or-le-sum_by}
-use Rattle.std.proofs.lemmas.Bool.{false≢true, ltb-true, ltb-false, eqb-true, eqb-false, eq-eqb, or_cases, or_parts, and_parts, and_cases, cond_both, cond-true, lt-ltb, cases_eq}
+use Rattle.std.proofs.lemmas.Bool.{false≢true, ltb-true, eqb-true, eq-eqb, cond_both, cond-true, lt-ltb, cases_eq, cases_Bool}
+use Rattle.std.proofs.lemmas.Bool.Decides.{nat_tests}
 use Rattle.third.specs.declared.Letter.{Letter}
+use Rattle.rules.proofs.Options.{none_some, same_some}
 use Rattle.rules.proofs.Counting.{count_none, overlap, count_by_count, found_by}
-use Rattle.third.specs.Third.{Mailbox, MostFrequent, says, heard, occurs, before, better, most_frequent, quorum_from, quorum_value}
+use Rattle.third.specs.Third.{Mailbox, MostFrequent, says, heard, occurs, better, most_frequent, quorum_from, quorum_value}
 
 -- y occurs at least as often as x, and where as often is at most x
 pub record AsGood (m : Mailbox) (x y : ℕ) : Type 0 where
@@ -16,29 +18,12 @@ pub record AsGood (m : Mailbox) (x y : ℕ) : Type 0 where
 good_trans : (m : Mailbox) (x y z : ℕ) → AsGood m x y → AsGood m y z → AsGood m x z
 good_trans m x y z a b = omega arith
 
-before_good : (m : Mailbox) (x y : ℕ) → before (occurs x m) x (occurs y m) y ≡ true → AsGood m y x
-before_good m x y e = elim (or_cases (nat_lt (occurs y m) (occurs x m)) (occurs x m == occurs y m && nat_lt x y) e) [
-  | inl t ↦ omega (arith, ltb-true (occurs y m) (occurs x m) t)
-  | inr t ↦
-      let both = and_parts (occurs x m == occurs y m) (nat_lt x y) t in
-      omega (arith, eqb-true (occurs x m) (occurs y m) both.0, ltb-true x y both.1)
-]
-
-behind_good : (m : Mailbox) (x y : ℕ) → before (occurs x m) x (occurs y m) y ≡ false → AsGood m x y
-behind_good m x y e =
-    let parts = or_parts (nat_lt (occurs y m) (occurs x m)) (occurs x m == occurs y m && nat_lt x y) e in
-    elim (and_cases (occurs x m == occurs y m) (nat_lt x y) parts.1) [
-      | inl t ↦ omega (arith, ltb-false (occurs y m) (occurs x m) parts.0, eqb-false (occurs x m) (occurs y m) t)
-      | inr t ↦ omega (arith, ltb-false (occurs y m) (occurs x m) parts.0, ltb-false x y t)
-    ]
-
 better_left : (m : Mailbox) (b : ℕ) (o : Option Letter) → AsGood m b (better m b o)
 better_left m b None = omega arith
-better_left m b (Some l) = cond_both (before (occurs l.value m) l.value (occurs b m) b) l.value b (AsGood m b) (before_good m l.value b) (λ e. omega arith)
+better_left m b (Some l) = grind (arith, nat_tests)
 
 better_right : (m : Mailbox) (b : ℕ) (l : Letter) → AsGood m l.value (better m b (Some l))
-better_right m b l =
-    cond_both (before (occurs l.value m) l.value (occurs b m) b) l.value b (AsGood m l.value) (λ e. omega arith) (behind_good m l.value b)
+better_right m b l = grind (arith, nat_tests)
 
 folded_left : (m : Mailbox) (b : ℕ) (places : Mailbox) → AsGood m b (fold (better m) b places)
 folded_left m b [] = omega arith
@@ -88,13 +73,12 @@ winner m d h =
     }
 
 pub quorum_occurs : (n : ℕ) (m places : Mailbox) (v : ℕ) → quorum_from n m places ≡ Some v → 2 * n < 3 * occurs v m
-quorum_occurs n m [] v h = let z : ◌≡◌ {A = ℕ} 0 1 = cc in omega arith
+quorum_occurs n m [] v h = none_some h
 quorum_occurs n m (None ∷ places) v h = quorum_occurs n m places v h
-quorum_occurs n m (Some l ∷ places) v h = go (nat_lt (2 * n) (3 * occurs l.value m)) refl (quorum_occurs n m places v) h
-  where
-    go : (b : Bool) → nat_lt (2 * n) (3 * occurs l.value m) ≡ b → (quorum_from n m places ≡ Some v → 2 * n < 3 * occurs v m) → cond b (Some l.value) (quorum_from n m places) ≡ Some v → 2 * n < 3 * occurs v m
-    go true e later f = let same : l.value ≡ v = cc in rw (← same) (ltb-true (2 * n) (3 * occurs l.value m) e)
-    go false e later f = later f
+quorum_occurs n m (Some l ∷ places) v h = elim (cases_Bool (nat_lt (2 * n) (3 * occurs l.value m))) [
+  | inl e ↦ let same : l.value ≡ v = same_some (rw e at h) in rw (← same) (ltb-true _ _ e)
+  | inr e ↦ quorum_occurs n m places v (rw e at h)
+]
 
 -- a value of the places that occurs often enough is found, or one before it
 quorum_found : (n : ℕ) (m places : Mailbox) (v q : ℕ) → says v (slice_index_or places q None) ≡ true → 2 * n < 3 * occurs v m → (u : ℕ) × (quorum_from n m places ≡ Some u)
@@ -123,5 +107,5 @@ quorum_is n m v short often =
       | inl e ↦ f.1 ∙ ap (λ (x : ℕ). Some x) e
       | inr apart ↦
           let o = overlap k (λ q. says u (slice_index_or m q None)) (λ q. says v (slice_index_or m q None)) (λ _. false) (λ q _ a b. absurd (apart (says_one (slice_index_or m q None) u v a b))) in
-          absurd (omega (arith, o, count_none k, count_by_count (says u) None m, count_by_count (says v) None m, quorum_occurs n m m u f.1))
+          absurd (omega (arith, count_none k, count_by_count (says u) None m, count_by_count (says v) None m, quorum_occurs n m m u f.1))
     ]

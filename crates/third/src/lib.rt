@@ -48,7 +48,7 @@ fn is_quorum(count: usize, n: usize) -> bool
 }
 
 // A mailbox, and by sender how often the value of its letter occurs; 0 for a sender without a letter.
-#[derive(Clone, Copy)]
+#[derive(Drop)]
 struct Tally<'a> {
     mailbox: &'a [Option<Letter>],
     counts: [usize; 16],
