@@ -24,7 +24,7 @@ const VALUE_AT: u32 = 28;
 const STAMP_AT: u32 = 17;
 
 // A station's state. A stamp above 1,024 counts as 1,024.
-#[derive(Clone, Copy)]
+#[derive(Clone, Copy, Debug, PartialEq, Eq)]
 pub struct State {
     pub value: u16,
     pub stamp: u16,
@@ -35,7 +35,7 @@ pub struct State {
 }
 
 // A letter: a value and its stamp, which counts as 1,024 if it is larger.
-#[derive(Clone, Copy)]
+#[derive(Clone, Copy, Debug, PartialEq, Eq)]
 pub struct Letter {
     pub value: u16,
     pub stamp: u16,
