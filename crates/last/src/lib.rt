@@ -2,17 +2,14 @@
 // adopt it, they acknowledge it, and they decide.
 #![tactic(auto)]
 
-ghost use Rattle.std.specs.Prelude.{◌≡◌, ◌^◌, ◌<◌, ◌≤◌, length, Some};
-ghost use Rattle.last.specs.Last.{last, stamped, counted, phase, coordinator, later, latest, VotesForLatest, collect, adopt, acknowledge, decide};
+ghost use Rattle.std.specs.Prelude.{◌≡◌, ◌*◌, ◌^◌, ◌<◌, ◌≤◌, Some, nat_lt};
+ghost use Rattle.last.specs.Last.{last, stamped, counted, phase, coordinator, heard, later, latest, VotesForLatest, collect, adopt, acknowledge, decide};
 ghost use Rattle.last.specs.Laws.{last_interface, last_laws};
 ghost use Rattle.std.proofs.Common.{rules};
 
 use rules::{Rule, count_letters, is_outside};
 
-// The most stations.
-const MOST: usize = 16;
-
-// The rounds of a phase.
+// The rounds of a phase. Its steps go by their numbers, 0 to 3, as in the rule's table.
 const STEPS: u16 = 4;
 
 // The largest stamp.
@@ -23,7 +20,7 @@ const VALUE_AT: u32 = 28;
 
 const STAMP_AT: u32 = 17;
 
-// A station's state. A stamp above 1,024 counts as 1,024.
+// A station's state. A stamp above 1,024 counts as 1,024. The vote stands beside its marks, since it outlasts them.
 #[derive(Clone, Copy, Debug, PartialEq, Eq)]
 pub struct State {
     pub value: u16,
@@ -73,14 +70,8 @@ fn later_of(best: Option<(usize, Letter)>, next: (usize, Letter)) -> (usize, Let
     ensures { result ≡ later best next }
 {
     match best {
-        Some(best) => {
-            if capped(best.1.stamp) < capped(next.1.stamp) {
-                next
-            } else {
-                best
-            }
-        }
-        None => next,
+        Some(best) if capped(best.1.stamp) >= capped(next.1.stamp) => best,
+        _ => next,
     }
 }
 
@@ -88,6 +79,7 @@ fn later_of(best: Option<(usize, Letter)>, next: (usize, Letter)) -> (usize, Let
 fn latest_letter(mailbox: &[Option<Letter>]) -> Option<(usize, Letter)>
     ensures { result ≡ latest mailbox.now }
 {
+    // a loop: a `fold` with a `match` in it is no plainer
     let mut best = None;
     for (sender, place) in mailbox.iter().enumerate() {
         if let Some(letter) = place {
@@ -97,23 +89,24 @@ fn latest_letter(mailbox: &[Option<Letter>]) -> Option<(usize, Letter)>
     best
 }
 
+// Whether a mailbox has letters from more than half of n stations.
+fn hears_majority(n: usize, mailbox: &[Option<Letter>]) -> bool
+    ensures { result ≡ nat_lt n (2 * heard mailbox.now) }
+{
+    count_letters(mailbox) > n / 2
+}
+
 // Step 0: a coordinator that hears more than half commits to the value of the latest letter.
 fn collected(n: usize, state: &State, mailbox: &[Option<Letter>]) -> State
-    requires { length mailbox.now ≤ 16 }
     ensures { result ≡ collect n mailbox.now state.now }
 {
-    let reports = count_letters(mailbox);
-    if 2 * reports > n {
-        match latest_letter(mailbox) {
-            Some((_, letter)) => State {
-                vote: letter.value,
-                committed: true,
-                ..*state
-            },
-            None => *state,
-        }
-    } else {
-        *state
+    match latest_letter(mailbox) {
+        Some((_, letter)) if hears_majority(n, mailbox) => State {
+            vote: letter.value,
+            committed: true,
+            ..*state
+        },
+        _ => *state,
     }
 }
 
@@ -134,17 +127,11 @@ fn adopted(round: u16, state: &State, proposal: Option<Letter>) -> State
 
 // Step 2: a coordinator to whom more than half acknowledge its vote is ready.
 fn acknowledged(n: usize, state: &State, mailbox: &[Option<Letter>]) -> State
-    requires { length mailbox.now ≤ 16 }
     ensures { result ≡ acknowledge n mailbox.now state.now }
 {
-    let confirmations = count_letters(mailbox);
-    if 2 * confirmations > n {
-        State {
-            ready: true,
-            ..*state
-        }
-    } else {
-        *state
+    State {
+        ready: state.ready || hears_majority(n, mailbox),
+        ..*state
     }
 }
 
@@ -152,15 +139,12 @@ fn acknowledged(n: usize, state: &State, mailbox: &[Option<Letter>]) -> State
 fn decided(coordinates: bool, state: &State, announcement: Option<Letter>) -> State
     ensures { result ≡ decide coordinates announcement state.now }
 {
-    let mut after = *state;
-    if let (None, Some(letter)) = (state.hull, announcement) {
-        after.hull = Some(letter.value);
+    State {
+        committed: state.committed && !coordinates,
+        ready: state.ready && !coordinates,
+        hull: state.hull.or(announcement.map(|letter| letter.value)),
+        ..*state
     }
-    if coordinates {
-        after.committed = false;
-        after.ready = false;
-    }
-    after
 }
 
 impl Rule for Last {
@@ -168,7 +152,7 @@ impl Rule for Last {
 
     type Letter = Letter;
 
-    const MAX_STATIONS: usize = MOST;
+    const MAX_STATIONS: usize = 16;
 
     ghost behaviour = { λ _. last };
 
@@ -201,7 +185,7 @@ impl Rule for Last {
         state: &State,
         receiver: usize,
     ) -> Option<Letter> {
-        if is_outside(MOST, n, sender, round) || receiver >= n {
+        if is_outside(Self::MAX_STATIONS, n, sender, round) || receiver >= n {
             return None;
         }
         let coordinator = coordinator_of(n, round);
@@ -237,7 +221,7 @@ impl Rule for Last {
         ensures value { result ≡ last.next n station round state.now mailbox.now }
         ensures votes { VotesForLatest n station round state.now mailbox.now result }
     {
-        if is_outside(MOST, n, station, round) || mailbox.len() != n {
+        if is_outside(Self::MAX_STATIONS, n, station, round) || mailbox.len() != n {
             return *state;
         }
         let coordinator = coordinator_of(n, round);
@@ -261,17 +245,14 @@ impl Rule for Last {
         ensures bound { result < 2 ^ 44 }
         ensures counts { last.unpack result ≡ Some (counted letter.now) }
     {
-        ((letter.value as u64) << VALUE_AT) + ((capped(letter.stamp) as u64) << STAMP_AT)
+        (u64::from(letter.value) << VALUE_AT) + (u64::from(capped(letter.stamp)) << STAMP_AT)
     }
 
     fn unpack(&self, word: u64) -> Option<Letter> {
-        let value = word >> VALUE_AT;
-        let stamp = (word >> STAMP_AT) % (1 << 11);
-        if word % (1 << STAMP_AT) == 0 && value < 1 << 16 && stamp <= LAST_STAMP as u64 {
-            Some(Letter {
-                value: value as u16,
-                stamp: stamp as u16,
-            })
+        let value = u16::try_from(word >> VALUE_AT).ok()?;
+        let stamp = ((word >> STAMP_AT) % (1 << 11)) as u16;
+        if word % (1 << STAMP_AT) == 0 && stamp <= LAST_STAMP {
+            Some(Letter { value, stamp })
         } else {
             None
         }
