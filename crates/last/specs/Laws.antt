@@ -1,9 +1,10 @@
 -- LastVoting keeps the interface and the four laws of a rule. Assumes nothing.
-use Rattle.std.specs.Prelude.{◌≡◌, ℕ, ◌^◌, ◌<◌, ◌≤◌, Bool, true, false, cond, ◌&&◌, ◌||◌, T, Some, None, nat_le, nat_lt, refl}
+use Rattle.std.specs.Prelude.{◌≡◌, ℕ, ◌^◌, ◌<◌, ◌≤◌, Bool, cond, ◌&&◌, ◌||◌, T, Some, None, nat_le, nat_lt, refl}
 use Rattle.std.proofs.Common.{◌∙◌, ap, arith, lit≤}
 use Rattle.std.proofs.lemmas.Bool.{cond-true, cond_both, ltb-true, lt-ltb, leb-true, le-leb, ne_eqb, or_left, or_right, and_parts, and_from, not_from_false}
 use Rattle.rules.specs.Rule.{outside, Interface, Codec, Laws, MailFits}
-use Rattle.rules.proofs.Options.{only, unless}
+use Rattle.std.proofs.lemmas.Float.{T_from_true}
+use Rattle.rules.proofs.Options.{holds, only, unless}
 use Rattle.last.specs.declared.State.{State}
 use Rattle.last.specs.declared.Letter.{Letter}
 use Rattle.last.specs.Last.{last, Mailbox, writes}
@@ -11,25 +12,18 @@ use Rattle.last.specs.Calls.{letter_is, by_step_both, by_next, stable}
 use Rattle.last.specs.Codec.{reads_back, counts_itself, packs_again}
 use Rattle.last.specs.Agreement.{agreement, validity}
 
-holds : (b : Bool) → T b → b ≡ true
-holds true t = refl
-holds false t = absurd t
-
-fits : (b : Bool) → b ≡ true → T b
-fits b e = rw e tt
-
 -- ---- ranges
 letter_small : (l : Letter) → T (last.letter_fits l) → (l.value < 2 ^ 16) × (l.stamp ≤ 1024)
 letter_small l t = let f = and_parts (nat_lt l.value (2 ^ 16)) (nat_le l.stamp 1024) (holds _ t) in (ltb-true _ _ f.0, leb-true _ _ f.1)
 
 letter_fit : (l : Letter) → l.value < 2 ^ 16 → l.stamp ≤ 1024 → T (last.letter_fits l)
-letter_fit l a b = fits _ (and_from _ _ (lt-ltb _ _ a) (le-leb _ _ b))
+letter_fit l a b = T_from_true _ (and_from _ _ (lt-ltb _ _ a) (le-leb _ _ b))
 
 state_small : (s : State) → T (last.state_fits s) → (s.value < 2 ^ 16) × (s.vote < 2 ^ 16)
 state_small s t = let f = and_parts (nat_lt s.value (2 ^ 16)) (nat_lt s.vote (2 ^ 16)) (holds _ t) in (ltb-true _ _ f.0, ltb-true _ _ f.1)
 
 state_fit : {v w : ℕ} → v < 2 ^ 16 → w < 2 ^ 16 → T (nat_lt v (2 ^ 16) && nat_lt w (2 ^ 16))
-state_fit a b = fits _ (and_from _ _ (lt-ltb _ _ a) (lt-ltb _ _ b))
+state_fit a b = T_from_true _ (and_from _ _ (lt-ltb _ _ a) (lt-ltb _ _ b))
 
 sent_fits : (n p k q : ℕ) (s : State) (l : Letter) → T (last.state_fits s) → last.letter n p k s q ≡ Some l → T (last.letter_fits l)
 sent_fits n p k q s l t e =
@@ -62,7 +56,7 @@ last_interface = record {
   no_letter = λ n p k q s t. cond-true _ _ _ (holds _ t);
   stays = λ n p k s m t. cond-true _ _ _ (or_left _ _ (holds _ t));
   stays_misfit = λ n p k s m ne. cond-true _ _ _ (or_right _ _ (not_from_false _ (ne_eqb _ _ ne)));
-  first_fits = λ n p v h. fits _ (and_from _ _ (lt-ltb _ _ h) refl);
+  first_fits = λ n p v h. T_from_true _ (and_from _ _ (lt-ltb _ _ h) refl);
   sent_fits = sent_fits;
   next_fits = next_fits;
 }
