@@ -1,9 +1,9 @@
 -- What holds of n stations at a phase's start and after each of its steps, and why each step carries it on. Assumes nothing.
-use Rattle.std.specs.Prelude.{◌≡◌, ℕ, ◌+◌, ◌*◌, ◌%◌, ◌<◌, ◌≤◌, true, Some, ◌==◌, nat_eq, nat_lt, refl}
+use Rattle.std.specs.Prelude.{◌≡◌, ℕ, ◌+◌, ◌*◌, ◌%◌, ◌<◌, ◌≤◌, Some, ◌==◌, nat_eq, nat_lt, refl}
 use Rattle.std.proofs.Common.{sym, ap, subst, ◌∙◌, inl, inr, arith}
 use Rattle.std.proofs.lemmas.Bool.{eqb-true, eqb-false, lt-ltb, cases_Bool, cond_both, cond-true, cond-false, false≢true}
 use Rattle.rules.proofs.Options.{same_some}
-use Rattle.rules.proofs.Counting.{count, count_all, overlap}
+use Rattle.rules.proofs.Counting.{count, no_fewer}
 use Rattle.last.specs.declared.State.{State}
 use Rattle.last.specs.Last.{stamped}
 use Rattle.last.specs.Locked.{Locked, Keeps, locked_on, vote_locked}
@@ -138,9 +138,7 @@ module _ (n : ℕ) (Ours : ℕ → Type 0) where
           above = f;
           most = omega (
             arith,
-            most,
-            count_all n,
-            overlap n (λ q. nat_eq (stamped (S q).stamp) (f + 1)) (λ _. true) (λ q. nat_lt f (S q).stamp) (λ q h t _. lt-ltb _ _ (omega (arith, eqb-true (stamped (S q).stamp) (f + 1) t))),
+            no_fewer n (λ q. nat_eq (stamped (S q).stamp) (f + 1)) (λ q. nat_lt f (S q).stamp) (λ q h t. lt-ltb _ _ (omega (arith, eqb-true (stamped (S q).stamp) (f + 1) t))),
           );
           value = λ p h t. sym (s.adopted p h (omega (arith, s.sound.stamps p h))).1 ∙ vote;
         }

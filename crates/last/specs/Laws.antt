@@ -1,8 +1,9 @@
 -- LastVoting keeps the interface and the four laws of a rule. Assumes nothing.
 use Rattle.std.specs.Prelude.{◌≡◌, ℕ, ◌^◌, ◌<◌, ◌≤◌, Bool, cond, ◌&&◌, ◌||◌, T, Some, None, nat_le, nat_lt, refl}
 use Rattle.std.proofs.Common.{◌∙◌, ap, arith, lit≤}
-use Rattle.std.proofs.lemmas.Bool.{cond-true, cond_both, ltb-true, lt-ltb, leb-true, le-leb, ne_eqb, or_left, or_right, and_parts, and_from, not_from_false}
+use Rattle.std.proofs.lemmas.Bool.{cond-true, cond_both, lt-ltb, ne_eqb, or_left, or_right, and_from, not_from_false}
 use Rattle.rules.specs.Rule.{outside, Interface, Codec, Laws, MailFits}
+use Rattle.std.proofs.lemmas.Bool.Decides.{nat_tests}
 use Rattle.std.proofs.lemmas.Float.{T_from_true}
 use Rattle.rules.proofs.Options.{holds, only, unless}
 use Rattle.last.specs.declared.State.{State}
@@ -14,16 +15,16 @@ use Rattle.last.specs.Agreement.{agreement, validity}
 
 -- ---- ranges
 letter_small : (l : Letter) → T (last.letter_fits l) → (l.value < 2 ^ 16) × (l.stamp ≤ 1024)
-letter_small l t = let f = and_parts (nat_lt l.value (2 ^ 16)) (nat_le l.stamp 1024) (holds _ t) in (ltb-true _ _ f.0, leb-true _ _ f.1)
+letter_small l t = let h = holds _ t in grind (arith, nat_tests)
 
 letter_fit : (l : Letter) → l.value < 2 ^ 16 → l.stamp ≤ 1024 → T (last.letter_fits l)
-letter_fit l a b = T_from_true _ (and_from _ _ (lt-ltb _ _ a) (le-leb _ _ b))
+letter_fit l a b = T_from_true _ (grind (arith, nat_tests))
 
 state_small : (s : State) → T (last.state_fits s) → (s.value < 2 ^ 16) × (s.vote < 2 ^ 16)
-state_small s t = let f = and_parts (nat_lt s.value (2 ^ 16)) (nat_lt s.vote (2 ^ 16)) (holds _ t) in (ltb-true _ _ f.0, ltb-true _ _ f.1)
+state_small s t = let h = holds _ t in grind (arith, nat_tests)
 
 state_fit : {v w : ℕ} → v < 2 ^ 16 → w < 2 ^ 16 → T (nat_lt v (2 ^ 16) && nat_lt w (2 ^ 16))
-state_fit a b = T_from_true _ (and_from _ _ (lt-ltb _ _ a) (lt-ltb _ _ b))
+state_fit a b = T_from_true _ (grind (arith, nat_tests))
 
 sent_fits : (n p k q : ℕ) (s : State) (l : Letter) → T (last.state_fits s) → last.letter n p k s q ≡ Some l → T (last.letter_fits l)
 sent_fits n p k q s l t e =

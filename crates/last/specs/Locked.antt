@@ -1,9 +1,9 @@
 -- A value is locked when more than half of the stations hold it so that no later coordinator can vote for another.
 -- Assumes nothing.
-use Rattle.std.specs.Prelude.{◌≡◌, ℕ, ◌*◌, ◌<◌, ◌≤◌, true, ◌&&◌, ltb, ◌⊎◌, nat_lt}
+use Rattle.std.specs.Prelude.{◌≡◌, ℕ, ◌*◌, ◌<◌, ◌≤◌, ltb, ◌⊎◌}
 use Rattle.std.proofs.Common.{sym, ◌∙◌, inl, inr, arith}
-use Rattle.std.proofs.lemmas.Bool.{ltb-true, lt-ltb, and_parts, and_from}
-use Rattle.rules.proofs.Counting.{count, count_all, overlap, witness}
+use Rattle.std.proofs.lemmas.Bool.{ltb-true, lt-ltb}
+use Rattle.rules.proofs.Counting.{count, no_fewer, witness, meet}
 use Rattle.last.specs.declared.State.{State}
 use Rattle.last.specs.Phase.{Vote}
 
@@ -18,10 +18,8 @@ module _ (n : ℕ) where
   -- two locked values are one
   pub locked_one : (S : ℕ → State) (a b : ℕ) → Locked S a → Locked S b → a ≡ b
   locked_one S a b x y =
-      let o = overlap n (λ p. ltb x.above (S p).stamp) (λ p. ltb y.above (S p).stamp) (λ p. nat_lt x.above (S p).stamp && nat_lt y.above (S p).stamp) (λ p _ s t. and_from _ _ s t) in
-      let w = witness n (λ p. nat_lt x.above (S p).stamp && nat_lt y.above (S p).stamp) (omega (arith, o, x.most, y.most)) in
-      let both = and_parts _ _ w.2 in
-      sym (x.value w.0 w.1 (ltb-true _ _ both.0)) ∙ y.value w.0 w.1 (ltb-true _ _ both.1)
+      let w = meet n (λ p. ltb x.above (S p).stamp) (λ p. ltb y.above (S p).stamp) (omega (arith, x.most, y.most)) in
+      sym (x.value w.0 w.1 (ltb-true _ _ w.2)) ∙ y.value w.0 w.1 (ltb-true _ _ w.3)
 
   -- someone has a locked value
   pub locked_held : (S : ℕ → State) (a : ℕ) → Locked S a → (p : ℕ) × (p < n) × ((S p).value ≡ a)
@@ -39,8 +37,7 @@ module _ (n : ℕ) where
     most = omega (
       arith,
       x.most,
-      count_all n,
-      overlap n (λ p. ltb x.above (S p).stamp) (λ _. true) (λ p. ltb x.above (T p).stamp) (λ p h t _.
+      no_fewer n (λ p. ltb x.above (S p).stamp) (λ p. ltb x.above (T p).stamp) (λ p h t.
           let before : x.above < (S p).stamp = ltb-true _ _ t in
           lt-ltb _ _ (elim (keeps p h) [ inl k ↦ omega (arith, k.0) | inr k ↦ omega (arith, k.0) ])),
     );
@@ -50,13 +47,11 @@ module _ (n : ℕ) where
   -- a vote of a coordinator that hears more than half is every locked value
   pub vote_locked : (f : ℕ) (S : ℕ → State) (v a : ℕ) → f < 1024 → ((p : ℕ) → p < n → (S p).stamp ≤ f) → Vote n S v → Locked S a → v ≡ a
   vote_locked f S v a early stamps vote x =
-      let o = overlap n vote.hears (λ p. ltb x.above (S p).stamp) (λ p. vote.hears p && nat_lt x.above (S p).stamp) (λ p _ s t. and_from _ _ s t) in
-      let w = witness n (λ p. vote.hears p && nat_lt x.above (S p).stamp) (omega (arith, o, x.most, vote.most)) in
-      let both = and_parts (vote.hears w.0) (nat_lt x.above (S w.0).stamp) w.2 in
+      let w = meet n vote.hears (λ p. ltb x.above (S p).stamp) (omega (arith, x.most, vote.most)) in
       let high : x.above < (S vote.from).stamp = omega (
         arith,
-        vote.largest w.0 w.1 both.0,
-        ltb-true _ _ both.1,
+        vote.largest w.0 w.1 w.2,
+        ltb-true _ _ w.3,
         stamps w.0 w.1,
         stamps vote.from vote.here,
       ) in

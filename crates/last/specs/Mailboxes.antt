@@ -33,6 +33,11 @@ one_more m i P below here p k h a = elim (cases_eq p i) [
   | inr ne ↦ below p k (omega arith) a
 ]
 
+-- the same where the letter l is at i
+one_letter_more : (m : Mailbox) (i : ℕ) (l : Letter) (P : Letter → Type 0) → ((p : ℕ) (k : Letter) → p < i → At m p k → P k) → At m i l → P l →
+    (p : ℕ) (k : Letter) → p < suc i → At m p k → P k
+one_letter_more m i l P below e here = one_more m i P below (λ k a. subst P (same_some (sym e ∙ a)) here)
+
 past_empty : (m : Mailbox) (i : ℕ) (best : Option Signed) → slice_index_or m i None ≡ None → Best m i best → Best m (suc i) best
 past_empty m i None e h = one_more m i (λ _. ⊥) h (λ k a. none_some (sym e ∙ a))
 past_empty m i (Some b) e h = record {
@@ -46,7 +51,7 @@ past_letter : (m : Mailbox) (i : ℕ) (best : Option Signed) (l : Letter) → At
 past_letter m i None l e h = record {
   seen = omega arith;
   there = e;
-  largest = one_more m i _ (λ p k lt a. absurd (h p k lt a)) (λ k a. let same : l ≡ k = same_some (sym e ∙ a) in rw (← same) (omega arith));
+  largest = one_letter_more m i l _ (λ p k lt a. absurd (h p k lt a)) e (omega arith);
   lowest = λ p k lt a. absurd (h p k lt a);
 }
 past_letter m i (Some b) l e h =
@@ -56,15 +61,15 @@ past_letter m i (Some b) l e h =
     record {
       seen = omega arith;
       there = e;
-      largest = one_more m i _ (λ p k lt a. omega (arith, more, h.largest p k lt a)) (λ k a. let same : l ≡ k = same_some (sym e ∙ a) in rw (← same) (omega arith));
-      lowest = λ p k lt a. omega (arith, more, h.largest p k lt a);
+      largest = one_letter_more m i l _ (λ p k lt a. omega (arith, h.largest p k lt a)) e (omega arith);
+      lowest = λ p k lt a. omega (arith, h.largest p k lt a);
     })
     (λ t.
     let less : stamped l.stamp ≤ stamped b.1.stamp = ltb-false _ _ t in
     record {
       seen = omega (arith, h.seen);
       there = h.there;
-      largest = one_more m i _ h.largest (λ k a. let same : l ≡ k = same_some (sym e ∙ a) in rw (← same) less);
+      largest = one_letter_more m i l _ h.largest e less;
       lowest = h.lowest;
     })
 

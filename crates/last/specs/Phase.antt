@@ -6,7 +6,7 @@ use Rattle.std.proofs.lemmas.Bool.{cond_both, eqb-true, eq-eqb, ne_eqb, ltb-true
 use Rattle.rules.specs.Rule.{Opening, Heard, lockstep, letter_heard, mailbox, outside}
 use Rattle.rules.proofs.Options.{only}
 use Rattle.rules.proofs.Tables.{length_tabulate, get_or_tabulate, at_tabulate}
-use Rattle.rules.proofs.Counting.{count, count_all, overlap, count_by_tabulate}
+use Rattle.rules.proofs.Counting.{count, no_fewer, count_by_tabulate}
 use Rattle.last.specs.declared.State.{State}
 use Rattle.last.specs.declared.Letter.{Letter}
 use Rattle.last.specs.Last.{last, phase, coordinator, stamped, Mailbox, At, heard, committed_to, adopting, readied, showing, unmarked, commit, latest, adopt, hull_after}
@@ -128,10 +128,10 @@ module _ (values : List ℕ) (opening : Opening last values) (H : Heard) where
   -- step 2
   confirmed : (k p : ℕ) → k % 4 ≡ 2 → n < 2 * heard (mail k p) → n < 2 * count n (λ q. nat_eq (stamped (run k q).stamp) (phase k + 1))
   confirmed k p step most =
-      let more = overlap n (hears k p) (λ _. true) (λ q. nat_eq (stamped (run k q).stamp) (phase k + 1)) (λ q h e _.
+      let more = no_fewer n (hears k p) (λ q. nat_eq (stamped (run k q).stamp) (phase k + 1)) (λ q h e.
       let l = heard_letter k p q h e in
       eq-eqb _ _ ((wrote k p q l.0 l.1).1.confirmed step)) in
-      omega (arith, more, count_all n, heard_is k p)
+      omega (arith, heard_is k p)
 
   pub acknowledges : (k p : ℕ) → k ≤ 4095 → k % 4 ≡ 2 → p < n → Acknowledges n (phase k) (run k) p (run (suc k) p)
   acknowledges k p early step h =

@@ -1,7 +1,7 @@
 -- How many stations pass a test, and why two large groups of them overlap. Assumes nothing.
-use Rattle.std.proofs.Common.{◌≡◌, ℕ, zero, suc, ◌+◌, ◌<◌, ◌≤◌, Bool, true, false, cond, List, [], ◌∷◌, length, get_or, count_by, refl, inl, inr, arith}
+use Rattle.std.proofs.Common.{◌≡◌, ℕ, zero, suc, ◌+◌, ◌<◌, ◌≤◌, Bool, true, cond, ◌&&◌, List, [], ◌∷◌, length, get_or, count_by, refl, inl, inr, arith}
 use Rattle.std.proofs.lemmas.List.Sums.{sum_by-cons}
-use Rattle.std.proofs.lemmas.Bool.{cases_Bool}
+use Rattle.std.proofs.lemmas.Bool.{and_from, and_parts, cases_Bool}
 use Rattle.rules.specs.Lists.{tabulate}
 
 -- how many stations below n pass f
@@ -9,25 +9,24 @@ abbrev pub count : ℕ → (ℕ → Bool) → ℕ
 count zero f = 0
 count (suc n) f = cond (f zero) 1 0 + count n (λ q. f (suc q))
 
-pub count_all : (n : ℕ) → count n (λ _. true) ≡ n
+count_all : (n : ℕ) → count n (λ _. true) ≡ n
 count_all zero = refl
 count_all (suc n) = omega (arith, count_all n)
-
-pub count_none : (n : ℕ) → count n (λ _. false) ≡ 0
-count_none zero = refl
-count_none (suc n) = omega (arith, count_none n)
 
 head_overlap : (a b c : Bool) → (a ≡ true → b ≡ true → c ≡ true) → cond a 1 0 + cond b 1 0 ≤ 1 + cond c 1 0
 head_overlap a b c h = grind arith
 
--- those that pass f and those that pass g are together at most n and those that pass both; with g always true: a weaker
--- test passes no fewer; with h never true: groups that do not meet are together at most n
+-- those that pass f and those that pass g are together at most n and those that pass both
 pub overlap : (n : ℕ) (f g h : ℕ → Bool) → ((q : ℕ) → q < n → f q ≡ true → g q ≡ true → h q ≡ true) → count n f + count n g ≤ n + count n h
 overlap zero f g h both = omega arith
 overlap (suc n) f g h both =
     let head = head_overlap (f zero) (g zero) (h zero) (both zero (omega arith)) in
     let rest = overlap n (λ q. f (suc q)) (λ q. g (suc q)) (λ q. h (suc q)) (λ q l. both (suc q) (omega arith)) in
     omega arith
+
+-- a weaker test passes no fewer
+pub no_fewer : (n : ℕ) (f g : ℕ → Bool) → ((q : ℕ) → q < n → f q ≡ true → g q ≡ true) → count n f ≤ count n g
+no_fewer n f g weaker = omega (arith, count_all n, overlap n f (λ _. true) g (λ q l h _. weaker q l h))
 
 -- if some pass, one does
 pub witness : (n : ℕ) (f : ℕ → Bool) → 0 < count n f → (q : ℕ) × (q < n) × (f q ≡ true)
@@ -39,6 +38,14 @@ witness (suc n) f h = elim (cases_Bool (f zero)) [
       let w = witness n (λ q. f (suc q)) (omega arith) in
       (suc w.0, omega (arith, w.1), w.2)
 ]
+
+-- two groups that are together more than n have one in common
+pub meet : (n : ℕ) (f g : ℕ → Bool) → n < count n f + count n g → (q : ℕ) × (q < n) × (f q ≡ true) × (g q ≡ true)
+meet n f g many =
+    let both = overlap n f g (λ q. f q && g q) (λ q _ s t. and_from _ _ s t) in
+    let w = witness n (λ q. f q && g q) (omega arith) in
+    let parts = and_parts (f w.0) (g w.0) w.2 in
+    (w.0, w.1, parts.0, parts.1)
 
 -- ---- counts over a list
 pub count_by_tabulate : {A : Type 0} (p : A → Bool) (n : ℕ) (f : ℕ → A) → count_by p (tabulate n f) ≡ count n (λ q. p (f q))

@@ -1,16 +1,16 @@
 -- In a lockstep run a value of more than two thirds of the stations stays, and a hull is such a value. Assumes nothing.
-use Rattle.std.specs.Prelude.{◌≡◌, ℕ, zero, suc, ◌+◌, ◌*◌, ◌<◌, ◌≤◌, Bool, true, false, cond, not, ◌||◌, ◌⊎◌, List, length, is_some, Some, None, Option, ◌==◌, nat_eq, nat_le, nat_lt, slice_index, refl}
+use Rattle.std.specs.Prelude.{◌≡◌, ℕ, zero, suc, ◌+◌, ◌*◌, ◌<◌, ◌≤◌, Bool, true, cond, not, ◌||◌, ◌⊎◌, List, length, is_some, Some, None, Option, ◌==◌, nat_eq, nat_le, nat_lt, slice_index, refl}
 use Rattle.std.proofs.Common.{◌∙◌}
 use Rattle.std.proofs.Math.Logic.{inl, inr}
 use native.Mathlib.Omega.{arith}
-use Rattle.std.proofs.lemmas.Bool.{ltb-true, eqb-true, eq-eqb, cases_eq, cases_lt, cond_both}
+use Rattle.std.proofs.lemmas.Bool.{ltb-true, eqb-true, eq-eqb, cases_lt, cond_both}
 use Rattle.rules.specs.Lists.{tabulate}
 use Rattle.rules.specs.Rule.{Heard, lockstep, outside, Agreement, Validity}
 use Rattle.third.specs.declared.Letter.{Letter}
 use Rattle.third.specs.declared.State.{State}
 use Rattle.third.specs.Third.{third, says, heard, occurs, most_frequent, quorum_value, first_of, next_value}
 use Rattle.rules.proofs.Options.{none_some}
-use Rattle.rules.proofs.Counting.{count, count_all, count_none, overlap, witness, count_by_tabulate}
+use Rattle.rules.proofs.Counting.{count, overlap, no_fewer, witness, meet, count_by_tabulate}
 use Rattle.third.specs.Mailbox.{winner_most, winner_heard, quorum_occurs}
 
 -- what holds of the state and of a changed one holds of the next
@@ -52,9 +52,8 @@ module _ (values : List ℕ) (H : Heard) where
   occurs_holders : (k p v : ℕ) → occurs v (mail k p) ≤ holders k v
   occurs_holders k p v =
       let n = length values in
-      let c = count_by_tabulate (says v) n (place k p) in
-      let o = overlap n (λ q. says v (place k p q)) (λ _. true) (λ q. nat_eq (value_of k q) v) (λ q _ h _. place_said k p q v h) in
-      omega (arith, count_all n)
+      let fewer = no_fewer n (λ q. says v (place k p q)) (λ q. nat_eq (value_of k q) v) (λ q _ h. place_said k p q v h) in
+      omega (arith, count_by_tabulate (says v) n (place k p))
 
   -- a station that hears enough takes the value of more than two thirds
   takes : (k p v d : ℕ) → Locked k v → 2 * length values < 3 * heard (mail k p) → most_frequent (mail k p) d ≡ v
@@ -62,15 +61,11 @@ module _ (values : List ℕ) (H : Heard) where
       let n = length values in
       let m = mail k p in
       let w = most_frequent m d in
-      elim (cases_eq w v) [
-        | inl e ↦ e
-        | inr apart ↦
-            let a = overlap n (λ q. is_some (place k p q)) (λ q. nat_eq (value_of k q) v) (λ q. says v (place k p q))
-            (λ q _ f e. saying (H p k q) (outside 16 n q k || nat_le n p) (value_of k q) v f e) in
-            let b = overlap n (λ q. says w (place k p q)) (λ q. nat_eq (value_of k q) v) (λ _. false)
-            (λ q _ f e. let there = place_said k p q w f in absurd (omega (arith, eqb-true))) in
-            absurd (omega (arith, count_none n, winner_most m d v, count_by_tabulate is_some n (place k p), count_by_tabulate (says v) n (place k p), count_by_tabulate (says w) n (place k p)))
-      ]
+      let often = overlap n (λ q. is_some (place k p q)) (λ q. nat_eq (value_of k q) v) (λ q. says v (place k p q))
+      (λ q _ f e. saying (H p k q) (outside 16 n q k || nat_le n p) (value_of k q) v f e) in
+      let both = meet n (λ q. says w (place k p q)) (λ q. nat_eq (value_of k q) v)
+      (omega (arith, winner_most m d v, count_by_tabulate is_some n (place k p), count_by_tabulate (says v) n (place k p), count_by_tabulate (says w) n (place k p))) in
+      omega (arith, eqb-true _ _ (place_said k p both.0 w both.2), eqb-true _ _ both.3)
 
   keeps : (k p v : ℕ) → Locked k v → value_of k p ≡ v → value_of (suc k) p ≡ v
   unfolding lockstep
@@ -84,9 +79,9 @@ module _ (values : List ℕ) (H : Heard) where
   locked_next : (k v : ℕ) → Locked k v → Locked (suc k) v
   locked_next k v lock =
       let n = length values in
-      let o = overlap n (λ q. nat_eq (value_of k q) v) (λ _. true) (λ q. nat_eq (value_of (suc k) q) v)
-      (λ q _ h _. eq-eqb (value_of (suc k) q) v (keeps k q v lock (eqb-true (value_of k q) v h))) in
-      omega (arith, count_all n)
+      let fewer = no_fewer n (λ q. nat_eq (value_of k q) v) (λ q. nat_eq (value_of (suc k) q) v)
+      (λ q _ h. eq-eqb (value_of (suc k) q) v (keeps k q v lock (eqb-true (value_of k q) v h))) in
+      omega arith
 
   hull_came : (k p v : ℕ) → (lockstep third values H (suc k) p).hull ≡ Some v → ((lockstep third values H k p).hull ≡ Some v) ⊎ (quorum_value (length values) (mail k p) ≡ Some v)
   unfolding lockstep
@@ -113,14 +108,9 @@ module _ (values : List ℕ) (H : Heard) where
   ]
 
   locked_same : (k a b : ℕ) → Locked k a → Locked k b → a ≡ b
-  locked_same k a b la lb = elim (cases_eq a b) [
-    | inl e ↦ e
-    | inr apart ↦
-        let n = length values in
-        let o = overlap n (λ q. nat_eq (value_of k q) a) (λ q. nat_eq (value_of k q) b) (λ _. false)
-        (λ q _ e f. absurd (omega (arith, eqb-true))) in
-        absurd (omega (arith, count_none n))
-  ]
+  locked_same k a b la lb =
+      let both = meet (length values) (λ q. nat_eq (value_of k q) a) (λ q. nat_eq (value_of k q) b) (omega arith) in
+      omega (arith, eqb-true _ _ both.2, eqb-true _ _ both.3)
 
   -- each value is an opening value
   origin : (k p : ℕ) → p < length values → (q : ℕ) × (q < length values) × (slice_index values q ≡ value_of k p)

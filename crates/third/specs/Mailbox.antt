@@ -1,13 +1,13 @@
 -- What the counts of a mailbox give: the winner is the value that occurs most often, the smallest of these in a tie, and a quorum's value is the one that occurs often enough.
 -- Assumes nothing.
-use Rattle.std.specs.Prelude.{◌≡◌, ℕ, zero, suc, ◌*◌, ◌<◌, ◌≤◌, true, false, cond, [], ◌∷◌, length, is_some, Some, None, fold, Option, nat_lt, slice_index_or, refl}
+use Rattle.std.specs.Prelude.{◌≡◌, ℕ, zero, suc, ◌*◌, ◌<◌, ◌≤◌, true, cond, [], ◌∷◌, length, is_some, Some, None, fold, Option, nat_lt, slice_index_or, refl}
 use Rattle.std.proofs.Common.{sym, ap, ◌∙◌, inl, inr, arith}
 use Rattle.std.proofs.lemmas.List.Sums.{get_or-le-sum_by}
 use Rattle.std.proofs.lemmas.Bool.{false≢true, ltb-true, eqb-true, eq-eqb, cond_both, cond-true, lt-ltb, cases_eq, cases_Bool}
 use Rattle.std.proofs.lemmas.Bool.Decides.{nat_tests}
 use Rattle.third.specs.declared.Letter.{Letter}
 use Rattle.rules.proofs.Options.{none_some, same_some}
-use Rattle.rules.proofs.Counting.{count_none, overlap, count_by_count, found_by}
+use Rattle.rules.proofs.Counting.{meet, count_by_count, found_by}
 use Rattle.third.specs.Third.{Mailbox, MostFrequent, says, heard, occurs, better, most_frequent, quorum_from, quorum_value}
 
 -- y occurs at least as often as x, and where as often is at most x
@@ -102,10 +102,6 @@ quorum_is n m v short often =
     let w = found_by (says v) None m (omega arith) in
     let f = quorum_found n m m v w.0 w.2 often in
     let u = f.0 in
-    let k = length m in
-    elim (cases_eq u v) [
-      | inl e ↦ f.1 ∙ ap (λ (x : ℕ). Some x) e
-      | inr apart ↦
-          let o = overlap k (λ q. says u (slice_index_or m q None)) (λ q. says v (slice_index_or m q None)) (λ _. false) (λ q _ a b. absurd (apart (says_one (slice_index_or m q None) u v a b))) in
-          absurd (omega (arith, count_none k, count_by_count (says u) None m, count_by_count (says v) None m, quorum_occurs n m m u f.1))
-    ]
+    let both = meet (length m) (λ q. says u (slice_index_or m q None)) (λ q. says v (slice_index_or m q None))
+    (omega (arith, count_by_count (says u) None m, count_by_count (says v) None m, quorum_occurs n m m u f.1)) in
+    f.1 ∙ ap (λ (x : ℕ). Some x) (says_one (slice_index_or m both.0 None) u v both.2 both.3)
