@@ -250,7 +250,7 @@ impl Rule for Last {
 
     fn unpack(&self, word: u64) -> Option<Letter> {
         let value = u16::try_from(word >> VALUE_AT).ok()?;
-        let stamp = ((word >> STAMP_AT) % (1 << 11)) as u16;
+        let stamp = ((word >> STAMP_AT) % (1 << (VALUE_AT - STAMP_AT))) as u16;
         if word % (1 << STAMP_AT) == 0 && stamp <= LAST_STAMP {
             Some(Letter { value, stamp })
         } else {

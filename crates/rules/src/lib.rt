@@ -79,7 +79,7 @@ pub fn first_states<R: Rule>(rule: &R, values: &[u16], states: &mut [R::State])
     ensures { states.new ≡ put states.old 0 (tabulate (length values.now)
         (λ p. (R.Rule.behaviour rule.now).first (length values.now) p (slice_index values.now p))) }
 {
-    // by index: what is written through a `zip` of `iter_mut()` no proof knows afterwards
+    // by index: a proof knows nothing of what is written through a `zip` of `iter_mut()`
     for (station, value) in values.iter().enumerate() {
         if station < states.len() {
             states[station] = rule.first(values.len(), station, *value);

@@ -1,5 +1,5 @@
 -- A round of OneThirdRule does what its law says. Assumes nothing.
-use Rattle.std.proofs.Common.{◌≡◌, ℕ, ◌*◌, false, not, ◌||◌, eqb, length, sym, ap, ◌∙◌, arith}
+use Rattle.std.proofs.Common.{◌≡◌, ℕ, ◌*◌, false, not, ◌||◌, eqb, length, arith}
 use Rattle.std.proofs.lemmas.Bool.{lt-ltb, le-ltb, eq-eqb, cond-true, cond-false, or_from, not_from_true}
 use Rattle.rules.specs.Rule.{outside}
 use Rattle.third.specs.declared.State.{State}
@@ -15,9 +15,9 @@ module _ (n : ℕ) (s : State) (m : Mailbox) (whole : length m ≡ n) where
     takes = λ enough.
         rw (cond-true _ (most_frequent m s.value) s.value (lt-ltb (2 * n) (3 * heard m) enough)) (winner m s.value (omega arith));
     keeps = λ few. cond-false _ (most_frequent m s.value) s.value (le-ltb (2 * n) (3 * heard m) few);
-    stays = λ h e. ap (λ o. first_of o (quorum_value n m)) e;
-    shows = λ v e often. ap (λ o. first_of o (quorum_value n m)) e ∙ quorum_is n m v (omega arith) often;
-    only_shows = λ v e shown. quorum_occurs n m m v (sym (ap (λ o. first_of o (quorum_value n m)) e) ∙ shown);
+    stays = λ h e. rw e;
+    shows = λ v e often. rw e (quorum_is n m v (omega arith) often);
+    only_shows = λ v e shown. quorum_occurs n m m v (rw e at shown);
   }
 
 pub moves : (n p k : ℕ) (s : State) (m : Mailbox) (r : State) → r ≡ third.next n p k s m → outside 16 n p k ≡ false → length m ≡ n → Moves n s m r

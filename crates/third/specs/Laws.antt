@@ -6,7 +6,7 @@ use Rattle.std.proofs.lemmas.Bool.Decides.{nat_tests}
 use Rattle.rules.specs.Rule.{Interface, Laws, Codec, Stable, outside}
 use Rattle.third.specs.declared.Letter.{Letter}
 use Rattle.third.specs.declared.State.{State}
-use Rattle.third.specs.Third.{third, says, heard, most_frequent, quorum_value, first_of}
+use Rattle.third.specs.Third.{third, says, heard, most_frequent}
 use Rattle.rules.proofs.Counting.{found_by}
 use Rattle.third.specs.Mailbox.{winner_heard}
 use Rattle.rules.proofs.Options.{holds, unless, same_some}
@@ -60,7 +60,7 @@ third_codec = record {
 }
 
 third_stable : Stable third
-third_stable n p k h s m e = let P : State → Type 0 = λ t. t.hull ≡ Some h in by_next P n p k s m e (ap (λ a. first_of a (quorum_value n m)) e)
+third_stable n p k h s m e = let P : State → Type 0 = λ t. t.hull ≡ Some h in by_next P n p k s m e (rw e)
 
 pub third_laws : Laws third
 third_laws = record { codec = third_codec; stable = third_stable; agreement = third_agreement; validity = third_validity }

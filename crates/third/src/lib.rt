@@ -47,7 +47,8 @@ fn is_quorum(count: usize, n: usize) -> bool
     3 * count > 2 * n
 }
 
-// A mailbox, and by sender how often the value of its letter occurs; 0 for a sender without a letter.
+// A mailbox, and by sender how often the value of its letter occurs; 0 for a sender without a letter. Its functions loop
+// over the letters with the sender's index, a form that the product asks for.
 #[derive(Drop)]
 struct Tally<'a> {
     mailbox: &'a [Option<Letter>],
