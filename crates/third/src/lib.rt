@@ -27,8 +27,14 @@ fn count_of(value: u16, mailbox: &[Option<Letter>]) -> usize
     ensures value { result ≡ occurs value mailbox.now }
     ensures bound { result ≤ length mailbox.now }
 {
-    let letter = Some(Letter { value });
-    mailbox.iter().filter(|place| **place == letter).count()
+    // a loop: with `filter(..).count()` the program takes a tenth more instructions on its longest schedule
+    let mut count = 0;
+    for place in mailbox {
+        if *place == Some(Letter { value }) {
+            count += 1;
+        }
+    }
+    count
 }
 
 // Whether a value goes before the best so far: it occurs more often, or as often and is smaller.
