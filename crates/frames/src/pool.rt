@@ -6,7 +6,7 @@ use crate::frame::read_frame;
 use rules::Rule;
 
 // Why the pool refuses. Whatever it refuses leaves its words as they were.
-#[derive(Clone, Copy)]
+#[derive(Debug, Clone, Copy, PartialEq, Eq)]
 pub enum PoolRefusal {
     // The place is not one of the frames'.
     NoSuchPlace,

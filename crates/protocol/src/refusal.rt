@@ -5,33 +5,33 @@ ghost use Rattle.protocol.specs.Refusals.{refusal_number, of_pool};
 use frames::pool::PoolRefusal;
 
 // In checking order. Whatever is refused leaves the shed and its buffers as they were.
-#[derive(Clone, Copy)]
+#[derive(Debug, Clone, Copy, PartialEq, Eq)]
 pub enum Refusal {
     // The shed is not open.
-    Shut,
+    Shut = 1,
     // The shed is open already.
-    AlreadyOpen,
+    AlreadyOpen = 2,
     // There are no opening values, or more than the rule's most stations.
-    ValueCount,
+    ValueCount = 3,
     // The pool is empty or too long, or the book is too long.
-    BufferSize,
+    BufferSize = 4,
     // A buffer is too short, or the pool or the book has another length than at opening.
-    BufferMismatch,
-    NoSuchStation,
-    NoSuchPlace,
+    BufferMismatch = 5,
+    NoSuchStation = 6,
+    NoSuchPlace = 7,
     // The word at the place is no frame of these stations and this rule.
-    Unreadable,
-    StationDown,
+    Unreadable = 8,
+    StationDown = 9,
     // The station listens: it has sent in this round.
-    AlreadySent,
+    AlreadySent = 10,
     // The station is fresh: it has not sent in this round.
-    NotListening,
+    NotListening = 11,
     // The station holds a letter for a later round.
-    HoldsLetter,
-    PoolFull,
-    BookFull,
+    HoldsLetter = 12,
+    PoolFull = 13,
+    BookFull = 14,
     // The station is in the last round, or a run is asked for past it.
-    LastRound,
+    LastRound = 15,
 }
 
 impl Refusal {
@@ -39,23 +39,7 @@ impl Refusal {
     pub fn number(&self) -> u8
         ensures { result ≡ refusal_number self.now }
     {
-        match self {
-            Refusal::Shut => 1,
-            Refusal::AlreadyOpen => 2,
-            Refusal::ValueCount => 3,
-            Refusal::BufferSize => 4,
-            Refusal::BufferMismatch => 5,
-            Refusal::NoSuchStation => 6,
-            Refusal::NoSuchPlace => 7,
-            Refusal::Unreadable => 8,
-            Refusal::StationDown => 9,
-            Refusal::AlreadySent => 10,
-            Refusal::NotListening => 11,
-            Refusal::HoldsLetter => 12,
-            Refusal::PoolFull => 13,
-            Refusal::BookFull => 14,
-            Refusal::LastRound => 15,
-        }
+        *self as u8
     }
 }
 
