@@ -1,6 +1,7 @@
-// The pool: words of which the first are frames.
-ghost use Rattle.std.specs.Prelude.{◌≡◌, length, replicate};
-ghost use Rattle.frames.specs.Pool.{found, taken_out, added, repeated};
+// The pool: words of which the first are frames. The shed keeps their count and the words are lent for each call, so a
+// struct of both would be made and taken apart in each.
+ghost use Rattle.std.specs.Prelude.{◌≡◌, cond, length, replicate};
+ghost use Rattle.frames.specs.Pool.{has_place, found, taken_out, added, repeated};
 
 use crate::frame::read_frame;
 use rules::Rule;
@@ -16,6 +17,17 @@ pub enum PoolRefusal {
     Full,
 }
 
+// Whether a place is one of the first `count` of a pool that has so many words.
+fn check_place(pool: &[u64], count: usize, place: usize) -> Result<(), PoolRefusal>
+    ensures { result ≡ cond (has_place pool.now count place) (Ok tt) (Err PoolRefusal.NoSuchPlace) }
+{
+    if place < count && count <= pool.len() {
+        Ok(())
+    } else {
+        Err(PoolRefusal::NoSuchPlace)
+    }
+}
+
 // The sender, the receiver, the round and the letter of the frame at a place, among n stations.
 pub fn frame_at<R: Rule>(
     rule: &R,
@@ -26,21 +38,18 @@ pub fn frame_at<R: Rule>(
 ) -> Result<(usize, usize, u16, R::Letter), PoolRefusal>
     ensures { result ≡ found (R.Rule.behaviour rule.now) n pool.now count place }
 {
-    if place >= count || count > pool.len() {
-        return Err(PoolRefusal::NoSuchPlace);
-    }
+    check_place(pool, count, place)?;
     read_frame(rule, n, pool[place]).ok_or(PoolRefusal::Unreadable)
 }
 
 // Takes the frame at a place out of the first `count`: the last of them moves there, and 0 takes its place. Answers how
 // many are left.
+#[tactic(auto, unfolding(crate::specs::Pool::take_out))]
 pub fn take_out(pool: &mut [u64], count: usize, place: usize) -> Result<usize, PoolRefusal>
     ensures answer { result ≡ (taken_out pool.old count place).0 }
     ensures words { pool.new ≡ (taken_out pool.old count place).1 }
 {
-    if place >= count || count > pool.len() {
-        return Err(PoolRefusal::NoSuchPlace);
-    }
+    check_place(pool, count, place)?;
     let last = count - 1;
     pool[place] = pool[last];
     pool[last] = 0;
@@ -48,6 +57,7 @@ pub fn take_out(pool: &mut [u64], count: usize, place: usize) -> Result<usize, P
 }
 
 // Frames join the first `count` at their end, all or none. Answers how many there are then.
+#[tactic(auto, using(crate::proofs::Added::put_part))]
 pub fn add(pool: &mut [u64], count: usize, words: &[u64]) -> Result<usize, PoolRefusal>
     ensures answer { result ≡ (added pool.old count words.now).0 }
     ensures words { pool.new ≡ (added pool.old count words.now).1 }
@@ -55,9 +65,7 @@ pub fn add(pool: &mut [u64], count: usize, words: &[u64]) -> Result<usize, PoolR
     if count > pool.len() || words.len() > pool.len() - count {
         return Err(PoolRefusal::Full);
     }
-    for (i, word) in words.iter().enumerate() {
-        pool[count + i] = *word;
-    }
+    pool[count..count + words.len()].copy_from_slice(words);
     Ok(count + words.len())
 }
 
@@ -66,9 +74,7 @@ pub fn repeat(pool: &mut [u64], count: usize, place: usize) -> Result<usize, Poo
     ensures answer { result ≡ (repeated pool.old count place).0 }
     ensures words { pool.new ≡ (repeated pool.old count place).1 }
 {
-    if place >= count || count > pool.len() {
-        return Err(PoolRefusal::NoSuchPlace);
-    }
+    check_place(pool, count, place)?;
     if count == pool.len() {
         return Err(PoolRefusal::Full);
     }
