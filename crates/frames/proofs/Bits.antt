@@ -1,8 +1,11 @@
 -- The bits of a set of stations: how large their number is, each bit of it, and the set that a number's bits are.
 -- Assumes nothing.
-use Rattle.std.proofs.Common.{◌≡◌, ℕ, zero, suc, ◌+◌, ◌*◌, ◌/◌, ◌%◌, ◌^◌, ◌<◌, ◌≤◌, Bool, true, false, cond, eqb, List, [], ◌∷◌, length, get_or, refl, ap, ◌∙◌, arith}
+use Rattle.std.proofs.Common.{◌≡◌, ℕ, zero, suc, ◌+◌, ◌*◌, ◌/◌, ◌%◌, ◌^◌, ◌<◌, ◌≤◌, Bool, true, false, cond, eqb, List, [], ◌∷◌, length, get_or, drop, refl, ap, ◌∙◌, arith}
 use native.Mathlib.Nat.{zero-div, mul-add-div_right}
 use Rattle.std.proofs.lemmas.Nat.{pow_pos, pow-add, shr_high, mod-pow-add}
+use mir.Val.{bool_byte}
+use Rattle.std.proofs.Math.Nat.{le-mul_of_pos_right}
+use Rattle.std.proofs.lemmas.List.{at_drop_more}
 use Rattle.rules.specs.Lists.{tabulate}
 use Rattle.frames.specs.Book.{set_bits}
 
@@ -18,6 +21,18 @@ rest_small (b ∷ bs) (suc m) h =
 
 pub bits_small : (bs : List Bool) → length bs ≡ 16 → set_bits bs (2 ^ 15) < 2 ^ 16
 bits_small bs h = rest_small bs 16 (omega arith)
+
+-- ---- the number as it grows, from the first station on: a bit more doubles it, and `left` bits are still to come
+pub bits_within : (bits left r w : ℕ) → bits * 2 ^ left + r ≡ w → bits ≤ w
+bits_within bits left r w e = omega (arith, le-mul_of_pos_right bits (pow_pos left))
+
+pub bits_more : (hs : List Bool) (i bits left w : ℕ) → i < length hs → bits * 2 ^ suc left + set_bits (drop i hs) (2 ^ suc left / 2) ≡ w →
+    (bits * 2 + bool_byte (get_or hs i false)) * 2 ^ left + set_bits (drop (i + 1) hs) (2 ^ left / 2) ≡ w
+bits_more hs i bits left w h e = split (get_or hs i false) (set_bits (drop (i + 1) hs) (2 ^ left / 2)) (2 ^ left) (2 ^ suc left) (omega arith) (rw (← half left) (rw (← at_drop_more (λ bs. set_bits bs (2 ^ suc left / 2)) hs i false h) e))
+  where
+    split : (b : Bool) (r x y : ℕ) → y ≡ 2 * x → bits * y + (cond b x 0 + r) ≡ w → (bits * 2 + bool_byte b) * x + r ≡ w
+    split true r x y two e = let f = rw two at e in omega arith
+    split false r x y two e = let f = rw two at e in omega arith
 
 double_up : (a x y : ℕ) → x ≡ 2 * y → a * x ≡ (2 * a) * y
 double_up a x y e = rw e (omega arith)

@@ -3,4 +3,5 @@ pub mod Bits
 pub mod Entries
 pub mod Sets
 pub mod Indexed
+pub mod Made
 pub mod Added

@@ -3,19 +3,16 @@ ghost use Rattle.std.specs.Prelude.{◌≡◌, ◌/◌, ◌%◌, ◌^◌, ◌<�
 ghost use Rattle.frames.specs.Book.{packed_entry, set_bits, senders_in, read_entry, EntryBack, EntryAgain, heard_set, heard_sets};
 
 use crate::{ROUNDS, STATIONS};
+use std::array;
 
 // The bits of a set of stations, station 0 highest.
 fn heard_bits(heard: &[bool; 16]) -> u64
     ensures value { result ≡ set_bits heard.now (2 ^ 15) }
     ensures bound { result < 2 ^ 16 }
 {
-    let mut bits: u64 = 0;
-    let mut weight: u64 = 1 << 15;
+    let mut bits = 0;
     for in_set in heard {
-        if *in_set {
-            bits += weight;
-        }
-        weight /= 2;
+        bits = bits * 2 + u64::from(*in_set);
     }
     bits
 }
@@ -51,15 +48,11 @@ fn round_in(word: u64) -> u16
 pub(crate) fn senders_in(word: u64) -> [bool; 16]
     ensures { result ≡ senders_in word }
 {
-    let mut heard = [false; 16];
-    for sender in 0..16 {
-        heard[sender] = (word >> (47 - sender)) % 2 == 1;
-    }
-    heard
+    array::from_fn(|sender| (word >> (47 - sender)) % 2 == 1)
 }
 
 // The station, the round and the heard set of a word. Every word is an entry: its low 32 bits are ignored, and without
-// them the entry packs again into the same word.
+// them the entry packs again into the same word. A tuple, as a frame is read, is the form that the product asks for.
 pub fn read_entry(word: u64) -> (usize, u16, [bool; 16])
     ensures entry { result ≡ read_entry word }
     ensures packs_again { EntryAgain word result }
@@ -71,24 +64,22 @@ pub fn read_entry(word: u64) -> (usize, u16, [bool; 16])
 pub fn senders(words: &[u64], station: usize, round: u16) -> [bool; 16]
     ensures { result ≡ heard_set words.now station round }
 {
-    for word in words {
-        if station_in(*word) == station && round_in(*word) == round {
-            return senders_in(*word);
-        }
-    }
-    [false; 16]
+    words
+        .iter()
+        .copied()
+        .find(|word| station_in(*word) == station && round_in(*word) == round)
+        .map_or([false; 16], senders_in)
 }
 
 // Whom the words name for each station in a round, in one pass. The words are read from the last to the first, so that
-// the first for a station stays.
+// the first for a station stays. Who asks for one round needs no table; an `Index` answers for every round after one pass.
 pub fn heard_in_round(words: &[u64], round: u16) -> [[bool; 16]; 16]
     ensures { result ≡ heard_sets words.now round }
 {
     let mut sets = [[false; 16]; 16];
-    for place in (0..words.len()).rev() {
-        let word = words[place];
-        if round_in(word) == round {
-            sets[station_in(word)] = senders_in(word);
+    for word in words.iter().rev() {
+        if round_in(*word) == round {
+            sets[station_in(*word)] = senders_in(*word);
         }
     }
     sets

@@ -5,11 +5,13 @@ ghost use Rattle.frames.specs.Index.{Indexes};
 
 use crate::ROUNDS;
 use crate::book::senders_in;
+use std::array;
 
 // A word for each of 16 stations in each of 4,096 rounds.
 const PLACES: usize = 65536;
 
 // The first word of a book for each station and round, at the place that its upper 16 bits name; 0 where there is none.
+// A fixed table, 512 KiB by value, and no map: recounting may want no memory from the heap.
 #[derive(Clone, Copy)]
 pub struct Index {
     words: [u64; PLACES],
@@ -21,9 +23,8 @@ impl Index {
         ensures { Indexes result.words book.now }
     {
         let mut words = [0; PLACES];
-        for i in (0..book.len()).rev() {
-            let word = book[i];
-            words[(word >> 48) as usize] = word;
+        for word in book.iter().rev() {
+            words[(*word >> 48) as usize] = *word;
         }
         Index { words }
     }
@@ -32,13 +33,9 @@ impl Index {
     pub fn heard_in_round(&self, round: u16) -> [[bool; 16]; 16]
         ensures { (book : List ℕ) → Indexes self.now.words book → result ≡ heard_sets book round }
     {
-        let mut sets = [[false; 16]; 16];
         if round >= ROUNDS {
-            return sets;
+            return [[false; 16]; 16];
         }
-        for station in 0..16 {
-            sets[station] = senders_in(self.words[station * 4096 + round as usize]);
-        }
-        sets
+        array::from_fn(|station| self.words[station * 4096 + round as usize]).map(senders_in)
     }
 }
