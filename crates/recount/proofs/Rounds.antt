@@ -70,14 +70,14 @@ module _ {S L : Type 0} (R : Behaviour S L) (values book : List ℕ) where
 
   -- one round more
   pub run_more :
-      (k : ℕ) (sets : List (List Bool)) (cells states scratch next after : List S) → n ≤ 16 →
+      (k : ℕ) (sets : List (List Bool)) (cells states scratch next front : List S) → n ≤ 16 →
       states ≡ recounted R values book k cells → sets ≡ heard_sets book k →
-      next ≡ written n (state_after R n k sets states) scratch → after ≡ take n next ++ drop n states →
-      after ≡ recounted R values book (k + 1) cells
-  run_more k sets cells states scratch next after few before heard advanced copied =
+      next ≡ written n (state_after R n k sets states) scratch → front ≡ take n next →
+      front ++ drop n states ≡ recounted R values book (k + 1) cells
+  run_more k sets cells states scratch next front few before heard advanced copied =
       let hear : (p q : ℕ) → p < n → q < n → hears sets p q ≡ book_heard book p k q = λ p q l m. rw heard (sets_hear book k p q (omega arith) (omega arith)) in
       let state : (p : ℕ) → p < n → state_in R n states p ≡ run k p = λ p l. rw before (get_or_written n (run k) cells p (R.first n p 0) l) in
       let new : next ≡ written n (run (suc k)) scratch = after_round R n k sets states scratch next values (book_heard book) advanced refl hear state in
-      let front : take n next ≡ tabulate n (run (suc k)) = ap (take n) new ∙ take_written n (run (suc k)) scratch in
+      let ahead : front ≡ tabulate n (run (suc k)) = copied ∙ ap (take n) new ∙ take_written n (run (suc k)) scratch in
       let rest : drop n states ≡ drop n cells = ap (drop n) before ∙ drop_written n (run k) cells in
-      rw add-one (copied ∙ ap (λ xs. xs ++ drop n states) front ∙ ap (λ xs. tabulate n (run (suc k)) ++ xs) rest)
+      rw add-one (ap (λ xs. xs ++ drop n states) ahead ∙ ap (λ xs. tabulate n (run (suc k)) ++ xs) rest)

@@ -1,7 +1,7 @@
 -- What one lockstep round and recount answer and leave. Assumes nothing.
 use Rattle.std.specs.Prelude.{◌≡◌, ℕ, suc, ◌+◌, ◌<◌, min, Bool, ◌||◌, List, [], ◌∷◌, length, Option, Result, ◌==◌, nat_le, nat_lt, slice_index_or}
 use Rattle.rules.specs.Lists.{written}
-use Rattle.rules.specs.Rule.{Behaviour, Heard, next_state, lockstep}
+use Rattle.rules.specs.Rule.{Behaviour, Heard, letter_heard, next_state, lockstep}
 use Rattle.frames.specs.Book.{book_heard, hears}
 use Rattle.protocol.specs.declared.refusal.Refusal.{Refusal}
 use Rattle.protocol.specs.declared.refusal.Refusal.TheVariants.{ValueCount, BufferMismatch, LastRound}
@@ -19,6 +19,10 @@ module _ {S L : Type 0} (R : Behaviour S L) (n : ℕ) where
   -- the state in cell p; the default stands past the end, where nothing is read
   abbrev pub state_in : List S → ℕ → S
   state_in states p = slice_index_or states p (R.first n p 0)
+
+  -- what p hears of q in round k, from the heard sets and the cells of all stations
+  abbrev pub letter_in : ℕ → List (List Bool) → List S → (p q : ℕ) → Option L
+  letter_in k sets states p = letter_heard R n p k (hears sets p) (state_in states)
 
   -- p's state after round k, from the heard sets and the cells of all stations
   abbrev pub state_after : ℕ → List (List Bool) → List S → ℕ → S

@@ -1,66 +1,63 @@
 // The states of all stations after a round of the lockstep run, from those before it.
-ghost use Rattle.std.specs.Prelude.{◌≡◌, ◌<◌, ◌≤◌, false, length, take, slice_index_or};
-ghost use Rattle.rules.specs.Lists.{written};
-ghost use Rattle.rules.specs.Rule.{mailbox, next_state};
-ghost use Rattle.recount.specs.Recount.{state_in, state_after};
+ghost use Rattle.std.specs.Prelude.{◌≡◌, ◌<◌, ◌≤◌, if◌then◌else◌, length, nat_lt, take, None};
+ghost use Rattle.rules.specs.Lists.{tabulate, written};
+ghost use Rattle.recount.specs.Recount.{letter_in, state_after};
 
 use rules::Rule;
+use std::array;
 
-// Writes the letters that the receiver hears in the round into the first n places, from the states before the round.
-fn fill_mailbox<R: Rule>(
-    rule: &R,
-    n: usize,
-    receiver: usize,
-    round: u16,
-    heard: &[bool; 16],
-    states: &[R::State],
-    letters: &mut [Option<R::Letter>],
-)
-    requires { (n ≤ 16) × ((n ≤ length states.now) × (n ≤ length letters.old)) }
-    ensures { take n letters.new ≡ mailbox (R.Rule.behaviour rule.now) n receiver round (λ q. slice_index_or heard.now q false) (state_in (R.Rule.behaviour rule.now) n states.now) }
-{
-    for sender in 0..n {
-        letters[sender] = if heard[sender] {
-            rule.letter(n, sender, round, &states[sender], receiver)
+// A round of n stations: whom each of them hears in it, and all states before it.
+#[derive(Drop)]
+pub struct Round<'a, R: Rule> {
+    pub rule: &'a R,
+    pub n: usize,
+    pub round: u16,
+    pub heard: &'a [[bool; 16]; 16],
+    pub states: &'a [R::State],
+    ghost few: { n ≤ 16 },
+    ghost there: { n ≤ length states.now },
+}
+
+impl<'a, R: Rule> Round<'a, R> {
+    // The letter that the receiver hears from a sender, or none.
+    fn letter(&self, sender: usize, receiver: usize) -> Option<R::Letter>
+        requires { receiver < self.now.n }
+        ensures { result ≡ (if nat_lt sender self.now.n then letter_in (R.Rule.behaviour self.now.rule.now) self.now.n self.now.round self.now.heard.now self.now.states.now receiver sender else None) }
+    {
+        if sender < self.n && self.heard[receiver][sender] {
+            self.rule
+                .letter(self.n, sender, self.round, &self.states[sender], receiver)
         } else {
             None
-        };
+        }
     }
-}
 
-// The station's state after the round, from all states before it. The mailbox is scratch.
-fn next_of<R: Rule>(
-    rule: &R,
-    n: usize,
-    station: usize,
-    round: u16,
-    heard: &[bool; 16],
-    states: &[R::State],
-    letters: &mut [Option<R::Letter>],
-) -> R::State
-    requires { (n ≤ 16) × ((n ≤ length states.now) × ((n ≤ length letters.old) × (station < n))) }
-    ensures { result ≡ next_state (R.Rule.behaviour rule.now) n station round (λ q. slice_index_or heard.now q false) (state_in (R.Rule.behaviour rule.now) n states.now) }
-{
-    fill_mailbox(rule, n, station, round, heard, states, letters);
-    let (mailbox, _) = letters.split_at(n);
-    rule.next(n, station, round, &states[station], mailbox)
-}
+    // The letters that the receiver hears, in the first n places.
+    fn mailbox(&self, receiver: usize) -> [Option<R::Letter>; 16]
+        requires { receiver < self.now.n }
+        ensures places { take self.now.n result ≡ tabulate self.now.n (letter_in (R.Rule.behaviour self.now.rule.now) self.now.n self.now.round self.now.heard.now self.now.states.now receiver) }
+        ensures len { length result ≡ 16 }
+    {
+        array::from_fn(|sender| self.letter(sender, receiver))
+    }
 
-// Writes the states of all n stations after the round, from all states before it.
-pub fn advance<R: Rule>(
-    rule: &R,
-    n: usize,
-    round: u16,
-    heard: &[[bool; 16]; 16],
-    states: &[R::State],
-    next: &mut [R::State],
-)
-    requires { (n ≤ 16) × ((n ≤ length states.now) × (n ≤ length next.old)) }
-    ensures { next.new ≡ written n (state_after (R.Rule.behaviour rule.now) n round heard.now states.now) next.old }
-{
-    let mut letters = [None; 16];
-    for station in 0..n {
-        let senders = &heard[station];
-        next[station] = next_of(rule, n, station, round, senders, states, &mut letters);
+    // The station's state after the round.
+    fn next(&self, station: usize) -> R::State
+        requires { station < self.now.n }
+        ensures { result ≡ state_after (R.Rule.behaviour self.now.rule.now) self.now.n self.now.round self.now.heard.now self.now.states.now station }
+    {
+        let mailbox = self.mailbox(station);
+        let letters = &mailbox[..self.n];
+        self.rule.next(self.n, station, self.round, &self.states[station], letters)
+    }
+
+    // Writes the states of all n stations after the round.
+    pub fn advance(&self, next: &mut [R::State])
+        requires { self.now.n ≤ length next.old }
+        ensures { next.new ≡ written self.now.n (state_after (R.Rule.behaviour self.now.rule.now) self.now.n self.now.round self.now.heard.now self.now.states.now) next.old }
+    {
+        for (station, cell) in next[..self.n].iter_mut().enumerate() {
+            *cell = self.next(station);
+        }
     }
 }

@@ -2,7 +2,7 @@
 ghost use Rattle.std.specs.Prelude.{◌≡◌, true, is_ok};
 ghost use Rattle.recount.specs.Recount.{round_call, Advances};
 
-use crate::advance::advance;
+use crate::advance::Round;
 use crate::check::check;
 use protocol::refusal::Refusal;
 use rules::{LAST_ROUND, Rule};
@@ -24,6 +24,13 @@ pub fn lockstep_round<R: Rule>(
 {
     let shortest = states.len().min(next.len());
     check(rule, n, shortest, round >= LAST_ROUND)?;
-    advance(rule, n, round, heard, states, next);
+    let this_round = Round {
+        rule,
+        n,
+        round,
+        heard,
+        states,
+    };
+    this_round.advance(next);
     Ok(round + 1)
 }

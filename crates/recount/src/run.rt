@@ -2,17 +2,9 @@
 ghost use Rattle.std.specs.Prelude.{◌≡◌, ◌≤◌, ◌++◌, length, take, drop};
 ghost use Rattle.recount.specs.Recount.{recounted};
 
-use crate::advance::advance;
+use crate::advance::Round;
 use frames::index::Index;
 use rules::{Rule, first_states};
-
-// Copies the first n cells.
-fn copy_front<T: Copy>(n: usize, from: &[T], to: &mut [T])
-    requires { (n ≤ length from.now) × (n ≤ length to.old) }
-    ensures { to.new ≡ take n from.now ++ drop n to.old }
-{
-    to[0..n].copy_from_slice(&from[0..n]);
-}
 
 // Leaves the lockstep run at the round in the first cells of `states`.
 pub fn run_rounds<R: Rule>(
@@ -31,7 +23,14 @@ pub fn run_rounds<R: Rule>(
     first_states(rule, values, states);
     for k in 0..round {
         let heard = index.heard_in_round(k);
-        advance(rule, n, k, &heard, states, scratch);
-        copy_front(n, scratch, states);
+        let this_round = Round {
+            rule,
+            n,
+            round: k,
+            heard: &heard,
+            states,
+        };
+        this_round.advance(scratch);
+        states[..n].copy_from_slice(&scratch[..n]);
     }
 }

@@ -10,8 +10,8 @@ loop-k-init g c =
 pub loop-k-preserved : goal.loop-k-preserved
 loop-k-preserved g c =
     run_more (g.R.Rule.behaviour c.args.rule.now) c.args.values.now c.args.book.now
-    c.loop-k.k c.heard_in_round-heard.result c.first_states.new.states c.loop-k.states c.loop-k.scratch c.advance.new.next c.copy_front.new.to
-    c.requires.0 c.loop-k.invariant (c.heard_in_round-heard.ensures c.args.book.now c.of-index.ensures) c.advance.ensures c.copy_front.ensures
+    c.loop-k.k c.heard_in_round-heard.result c.first_states.new.states c.loop-k.states c.loop-k.scratch c.advance.new.next c.copy_from_slice.new.self
+    c.requires.0 c.loop-k.invariant (c.heard_in_round-heard.ensures c.args.book.now c.of-index.ensures) c.advance.ensures c.copy_from_slice.ensures.after
 
 pub returns : goal.returns
 returns g c =
