@@ -1,6 +1,4 @@
-use Rattle.std.proofs.Common.{◌≡◌, ap, ◌∙◌, arith}
-use Rattle.recount.specs.Recount.{recounted}
-use Rattle.recount.proofs.Rounds.{run_none, run_more, run_over}
+use Rattle.recount.proofs.Rounds.{run_none, run_more}
 use Rattle.recount.proofs.run.run_rounds.Goals as goal
 
 pub loop-k-init : goal.loop-k-init
@@ -10,15 +8,5 @@ loop-k-init g c =
 pub loop-k-preserved : goal.loop-k-preserved
 loop-k-preserved g c =
     run_more (g.R.Rule.behaviour c.args.rule.now) c.args.values.now c.args.book.now
-    c.loop-k.k c.heard_in_round-heard.result c.first_states.new.states c.loop-k.states c.loop-k.scratch c.advance.new.next c.copy_from_slice.new.self
+    c.loop-k.k c.heard_in_round-heard.result c.args.states.now c.loop-k.states c.loop-k.scratch c.advance.new.next c.copy_from_slice.new.self
     c.requires.0 c.loop-k.invariant (c.heard_in_round-heard.ensures c.args.book.now c.of-index.ensures) c.advance.ensures c.copy_from_slice.ensures.after
-
-pub returns : goal.returns
-returns g c =
-    let R = g.R.Rule.behaviour c.args.rule.now in
-    let values = c.args.values.now in
-    let book = c.args.book.now in
-    let last : c.loop-k.k ≡ c.args.round = omega arith in
-    c.loop-k.invariant
-    ∙ run_over R values book c.loop-k.k c.args.states.now c.first_states.new.states c.requires.1.0 c.first_states.ensures
-    ∙ ap (λ k. recounted R values book k c.args.states.now) last
