@@ -45,10 +45,9 @@ mod tests {
     #[test]
     fn frames_read(rt: HostRuntime) -> Result<(), Fail> {
         let word = 0x2000_4012_C002_0000;
-        let Some(frame) = read_frame(&Last, 3, word) else {
+        let Some((sender, receiver, round, letter)) = read_frame(&Last, 3, word) else {
             return Err(Fail::new("not readable"));
         };
-        let (sender, receiver, round, letter) = frame;
         assert_eq!(rt; (sender, receiver, round), (2, 0, 4));
         assert_eq!(rt; (letter.value, letter.stamp), (300, 1));
         // sender 2 and receiver 1 of n stations, and a packed number that is no letter
@@ -78,7 +77,7 @@ mod tests {
         assert_eq!(rt; pack_entry(0, 4096, &both), None);
         let (station, round, heard) = read_entry(0xFABC_8001_1234_5678);
         assert_eq!(rt; (station, round), (15, 0xABC));
-        assert!(rt; heard == set(0x8001));
+        assert_eq!(rt; heard, set(0x8001));
     }
 
     #[test]
@@ -100,10 +99,10 @@ mod tests {
         ];
         for (station, round, bits) in cases {
             let named = senders(&words, station, round);
-            assert!(rt; named == set(bits));
+            assert_eq!(rt; named, set(bits));
             if station < 16 {
                 let all = heard_in_round(&words, round);
-                assert!(rt; all[station] == named);
+                assert_eq!(rt; all[station], named);
             }
         }
     }
@@ -129,7 +128,7 @@ mod tests {
         ];
         for (station, round, bits) in cases {
             let heard = index.heard_in_round(round);
-            assert!(rt; heard[station] == set(bits));
+            assert_eq!(rt; heard[station], set(bits));
         }
     }
 }

@@ -30,28 +30,12 @@ mod tests {
 
     const LETTER: Letter = Letter { value: 3 };
 
-    // The number of the refusal, 0 where there is none, and the round that is answered.
-    fn said(answer: &Result<u16, Refusal>) -> (u8, u16) {
-        match answer {
-            Ok(round) => (0, *round),
-            Err(refusal) => (refusal.number(), 0),
-        }
-    }
-
     fn blank(states: &[State]) -> bool {
-        let mut same = true;
-        for state in states {
-            same = same && state.value == 1 && state.hull == Some(2);
-        }
-        same
+        states.iter().all(|state| (state.value, state.hull) == (BLANK.value, BLANK.hull))
     }
 
     fn unwritten(row: &[Letter]) -> bool {
-        let mut same = true;
-        for letter in row {
-            same = same && letter.value == 3;
-        }
-        same
+        row.iter().all(|letter| letter.value == LETTER.value)
     }
 
     // Recounts stations that open with 9 and 7, over a first buffer of three cells, and gives the answer and that buffer.
@@ -82,7 +66,7 @@ mod tests {
         ];
         for (round, first, second) in cases {
             let (answer, states) = two_stations(&BOOK, round);
-            assert_eq!(rt; said(&answer), (0, round));
+            assert_eq!(rt; answer, Ok(round));
             assert_eq!(rt; (states[0].value, states[0].hull), first);
             assert_eq!(rt; (states[1].value, states[1].hull), second);
             assert!(rt; blank(&states[2..3]));
@@ -106,21 +90,21 @@ mod tests {
         assert_eq!(rt; two_stations(&[], 1).1[0].value, 9);
     }
 
-    // Recounts over these buffers, and gives the refusal's number and whether all three are as they were.
+    // Recounts over these buffers, and gives the answer and whether all three are as they were.
     fn refused(
         values: &[u16],
         states: &mut [State],
         scratch: &mut [State],
         row: &mut [Letter],
         round: u16,
-    ) -> (u8, bool) {
+    ) -> (Result<u16, Refusal>, bool) {
         let answer = recount(&Third, values, &BOOK, round, states, scratch, row);
         let same = blank(states) && blank(scratch) && unwritten(row);
-        (said(&answer).0, same)
+        (answer, same)
     }
 
     // The same with as many cells in each buffer as there are values.
-    fn refused_all(values: &[u16], round: u16) -> (u8, bool) {
+    fn refused_all(values: &[u16], round: u16) -> (Result<u16, Refusal>, bool) {
         let mut states = [BLANK; 20];
         let mut scratch = [BLANK; 20];
         let mut row = [LETTER; 20];
@@ -128,12 +112,29 @@ mod tests {
     }
 
     #[test]
+    fn refusals_have_numbers(rt: HostRuntime) {
+        for (refusal, number) in [
+            (Refusal::ValueCount, 3),
+            (Refusal::BufferMismatch, 5),
+            (Refusal::LastRound, 15),
+        ] {
+            assert_eq!(rt; refusal.number(), number);
+        }
+    }
+
+    #[test]
     fn refuses(rt: HostRuntime) {
-        assert_eq!(rt; refused_all(&[], 2), (3, true));
-        assert_eq!(rt; refused_all(&[5; 17], 2), (3, true));
-        assert_eq!(rt; refused_all(&[5; 16], 4096), (15, true));
-        assert_eq!(rt; refused_all(&[5; 16], 65535), (15, true));
-        assert_eq!(rt; refused_all(&[5; 16], 4095), (0, false));
+        assert_eq!(rt; refused_all(&[], 2), (Err(Refusal::ValueCount), true));
+        assert_eq!(rt; refused_all(&[5; 17], 2), (Err(Refusal::ValueCount), true));
+        assert_eq!(rt;
+            refused_all(&[5; 16], 4096),
+            (Err(Refusal::LastRound), true)
+        );
+        assert_eq!(rt;
+            refused_all(&[5; 16], 65535),
+            (Err(Refusal::LastRound), true)
+        );
+        assert_eq!(rt; refused_all(&[5; 16], 4095), (Ok(4095), false));
     }
 
     #[test]
@@ -142,52 +143,50 @@ mod tests {
         let mut two = [BLANK; 2];
         let mut letter = [LETTER; 1];
         let mut letters = [LETTER; 2];
-        assert_eq!(rt; refused(&[], &mut [], &mut [], &mut [], 4096), (3, true));
+        assert_eq!(rt;
+            refused(&[], &mut [], &mut [], &mut [], 4096),
+            (Err(Refusal::ValueCount), true)
+        );
         assert_eq!(rt;
             refused(&[9, 7], &mut one, &mut two, &mut letters, 4096),
-            (5, true)
+            (Err(Refusal::BufferMismatch), true)
         );
         assert_eq!(rt;
             refused(&[9, 7], &mut two, &mut one, &mut letters, 4096),
-            (5, true)
+            (Err(Refusal::BufferMismatch), true)
         );
         let mut other = [BLANK; 2];
         assert_eq!(rt;
             refused(&[9, 7], &mut two, &mut other, &mut letter, 4096),
-            (5, true)
+            (Err(Refusal::BufferMismatch), true)
         );
         assert_eq!(rt;
             refused(&[9, 7], &mut two, &mut other, &mut letters, 4096),
-            (15, true)
+            (Err(Refusal::LastRound), true)
         );
     }
 
-    // One round of n stations that heard everybody, and the number of the refusal, the round that is answered and the
-    // value in the first cell for the states after it.
-    fn one_round(n: usize, round: u16, next: &mut [State]) -> (u8, u16, u16) {
+    // One round of n stations that heard everybody: the answer, and the value in the first cell for the states after it.
+    fn one_round(n: usize, round: u16) -> (Result<u16, Refusal>, u16) {
+        let mut next = [BLANK; 3];
         let states = [SEVEN; 4];
         let heard = [[true; 16]; 16];
-        let answer = lockstep_round(&Third, n, round, &heard, &states, next);
-        let (refusal, reached) = said(&answer);
-        match next {
-            [first, ..] => (refusal, reached, first.value),
-            [] => (refusal, reached, 0),
-        }
+        let answer = lockstep_round(&Third, n, round, &heard, &states, &mut next);
+        (answer, next[0].value)
     }
 
     #[test]
     fn one_round_goes_on(rt: HostRuntime) {
-        // number of stations, round, and what is said: the first cell has 1 where nothing is written, and 7 else
+        // number of stations, round, and what is answered: the first cell has 1 where nothing is written, and 7 else
         let cases = [
-            (0, 4095, (3, 0, 1)),
-            (17, 4095, (3, 0, 1)),
-            (4, 4095, (5, 0, 1)),
-            (3, 4095, (15, 0, 1)),
-            (3, 4094, (0, 4095, 7)),
+            (0, 4095, (Err(Refusal::ValueCount), 1)),
+            (17, 4095, (Err(Refusal::ValueCount), 1)),
+            (4, 4095, (Err(Refusal::BufferMismatch), 1)),
+            (3, 4095, (Err(Refusal::LastRound), 1)),
+            (3, 4094, (Ok(4095), 7)),
         ];
         for (n, round, said) in cases {
-            let mut next = [BLANK; 3];
-            assert_eq!(rt; one_round(n, round, &mut next), said);
+            assert_eq!(rt; one_round(n, round), said);
         }
     }
 }
