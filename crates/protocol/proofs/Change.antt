@@ -15,7 +15,7 @@ module _ {S L : Type 0} (R : Behaviour S L) (values : List ℕ) (B : ℕ) (w : W
   pub pool_changed :
       (c : ℕ) (x : List ℕ) (slips : List Slip) → c ≡ length slips → c ≤ w.pool_len →
       ((j : ℕ) → j < length slips → Carry R values (heard_in t.triples) t.rounds (get_or x j 0) (get_or slips j nowhere)) →
-      Inv R values B (with_pool R w c x) (record { rounds = t.rounds; slips = slips; notes = t.notes; triples = t.triples })
+      Inv R values B (with_pool R w c x) (record t { slips = slips })
   pool_changed c x slips e room carried = record {
     n_is = i.n_is;
     book_len_is = i.book_len_is;
@@ -38,7 +38,7 @@ module _ {S L : Type 0} (R : Behaviour S L) (values : List ℕ) (B : ℕ) (w : W
       ((p' q : ℕ) → (p' ≡ p → ⊥) → q ≤ w.n → slice_get letters (cell w.n p' q) ≡ slice_get w.letters (cell w.n p' q)) →
       Seat R values (heard_in t.triples) t.rounds (notes p) s (state_of R w p) (λ q. slice_get letters (cell w.n p q)) (slice_get letters (cell w.n p w.n)) p →
       Inv R values B (with_letters R (with_stations R w (set w.stations p s)) letters)
-      (record { rounds = t.rounds; slips = t.slips; notes = notes; triples = t.triples })
+      (record t { notes = notes })
   station_changed p s letters notes h en el seat = record {
     n_is = i.n_is;
     book_len_is = i.book_len_is;

@@ -1,6 +1,6 @@
 -- An accepted crash keeps the invariant. Assumes nothing.
-use Rattle.std.proofs.Common.{ℕ, ◌<◌, leb, List, length, set, refl, arith}
-use Rattle.std.proofs.lemmas.Bool.{leb-false, true≢false}
+use Rattle.std.proofs.Common.{ℕ, ◌<◌, List, length, set, refl, arith}
+use Rattle.std.proofs.lemmas.Bool.{true≢false}
 use Rattle.rules.specs.Rule.{Behaviour}
 use Rattle.protocol.specs.declared.types.Record.{Record}
 use Rattle.protocol.specs.declared.types.Stand.TheVariants.{Down}
@@ -9,19 +9,17 @@ use Rattle.protocol.specs.World.{World, station}
 use Rattle.protocol.specs.Calls.{step, with_stations}
 use Rattle.protocol.specs.Tally.{Tally, tally_accepted}
 use Rattle.protocol.proofs.Change.{station_changed}
-use Rattle.rules.proofs.Options.{passed}
-use Rattle.protocol.proofs.Invariant.{Inv, Seated, sound, Follows, attempted}
+use Rattle.protocol.proofs.Invariant.{Inv, Seated, sound_below, Follows, attempted}
 
 module _ {S L : Type 0} (R : Behaviour S L) (values : List ℕ) (B : ℕ) (w : World S L) (t : Tally) (i : Inv R values B w t) where
   pub crashed : (p : ℕ) → Follows R values B (step R w (Crash p)).0 (step R w (Crash p)).1 t (tally_accepted R values t (Crash p))
   unfolding step tally_accepted
   crashed p =
       let s : Record = station w p in
-      attempted R values B w (with_stations R w (set w.stations p (record { round = s.round; stand = Down; heard = s.heard; hold = s.hold })))
+      attempted R values B w (with_stations R w (set w.stations p (record s { stand = Down })))
       _ 0 t t i (λ fine.
-      let b = sound R w _ fine in
-      let c = passed (leb w.n p) _ _ b.1 in
-      let h : p < length values = omega (arith, leb-false w.n p c.0, i.n_is) in
+      let b = sound_below R w w.n p _ _ fine in
+      let h : p < length values = omega (arith, b.1, i.n_is) in
       let old : Seated R values w t p = i.seats p h in
-      station_changed R values B w t i p (record { round = s.round; stand = Down; heard = s.heard; hold = s.hold }) w.letters t.notes h
+      station_changed R values B w t i p (record s { stand = Down }) w.letters t.notes h
       (λ p' r q e. refl) (λ p' q e l. refl) (record { round = old.round; limit = old.limit; state = old.state; live = λ up. absurd (true≢false up) }))

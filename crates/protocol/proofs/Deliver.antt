@@ -3,7 +3,7 @@ use Rattle.std.proofs.Common.{◌≡◌, ℕ, ◌+◌, ◌*◌, ◌^◌, ◌<◌
 use mathlib.Core.Path.{fun_ext}
 use Rattle.std.specs.Result.{result_err}
 use Rattle.std.proofs.lemmas.List.{length-set, get_or-set_same, get_or-set_other}
-use Rattle.std.proofs.lemmas.Bool.{cases_eq, leb-false, ltb-true, ltb-false, eqb-true, eq-eqb, ne_eqb, le-ltb, true≢false, false≢true, and_parts, cond_both, not-true, or_left, or_right, and_from}
+use Rattle.std.proofs.lemmas.Bool.{cases_eq, ltb-true, ltb-false, eqb-true, eq-eqb, ne_eqb, le-ltb, true≢false, false≢true, and_parts, cond_both, not-true, or_left, or_right, and_from}
 use Rattle.rules.specs.Rule.{Behaviour, Interface, Laws, lockstep}
 use Rattle.frames.specs.Frame.{Frame}
 use Rattle.protocol.specs.declared.types.Held.{Held}
@@ -11,7 +11,7 @@ use Rattle.protocol.specs.declared.types.Record.{Record}
 use Rattle.protocol.specs.declared.types.Fate.{Fate}
 use Rattle.protocol.specs.declared.types.Fate.TheVariants.{Late, Again, Taken, Early}
 use Rattle.protocol.specs.declared.types.Step.TheVariants.{Deliver}
-use Rattle.protocol.specs.World.{World, station}
+use Rattle.protocol.specs.World.{World, hearing, holding, station}
 use Rattle.protocol.specs.Calls.{step, without_frame, cell, is_fresh, is_down, holds, received, fate_of, frame_at, attempt, receiver_refusal, mismatched}
 use Rattle.protocol.specs.Refusals.{first_refusal}
 use Rattle.protocol.specs.declared.refusal.Refusal.{Refusal}
@@ -21,7 +21,7 @@ use Rattle.protocol.proofs.Places.{cell_written, cell_kept}
 use Rattle.frames.proofs.RoundTrip.{reads_back}
 use Rattle.rules.proofs.Options.{none_some, passed, same_some}
 use Rattle.rules.proofs.Runs.{run_fits}
-use Rattle.protocol.proofs.Invariant.{Inv, Brought, Seated, sound, Follows, attempted}
+use Rattle.protocol.proofs.Invariant.{Inv, Brought, Seated, sound_below, Follows, attempted}
 use Rattle.protocol.proofs.Pool.{frame_out}
 use Rattle.protocol.proofs.Change.{station_changed}
 
@@ -30,7 +30,7 @@ abbrev noting : Tally → Slip → ℕ → ℕ → ℕ → Bool
 noting t s p r q = t.notes p r q || (eqb s.receiver p && eqb s.round r && eqb s.sender q && not (ltb s.round (t.rounds s.receiver)))
 
 abbrev noted : Tally → Slip → Tally
-noted t s = record { rounds = t.rounds; slips = t.slips; notes = noting t s; triples = t.triples }
+noted t s = record t { notes = noting t s }
 
 absorbed : (a b : Bool) → (b ≡ true → a ≡ true) → (a || b) ≡ a
 absorbed true b h = refl
@@ -76,7 +76,7 @@ module _ {S L : Type 0} (R : Behaviour S L) (values : List ℕ) (B : ℕ) (w : W
   same_notes : ((p r q : ℕ) → noting t s p r q ≡ t.notes p r q) → Inv R values B w (noted t s)
   same_notes e =
       let all : noting t s ≡ t.notes = fun_ext (λ p. fun_ext (λ r. fun_ext (λ q. e p r q))) in
-      subst (λ x. Inv R values B w (record { rounds = t.rounds; slips = t.slips; notes = x; triples = t.triples })) (sym all) i
+      subst (λ x. Inv R values B w (record t { notes = x })) (sym all) i
 
   late : s.round < old.round → Inv R values B (received R w f Late) (noted t s)
   late h = same_notes (λ p r q. absorbed _ _ (λ e. absurd (omega (arith, (said t s p r q e).3, (i.seats s.receiver to).round))))
@@ -108,7 +108,7 @@ module _ {S L : Type 0} (R : Behaviour S L) (values : List ℕ) (B : ℕ) (w : W
       let now : s.round ≡ t.rounds s.receiver = h ∙ at.round in
       let hx : x ≤ w.n = omega (arith, b.sender) in
       let inside : x < length old.heard = omega (arith, b.sender, a.places, few) in
-      station_changed R values B w t i s.receiver (record { round = old.round; stand = old.stand; heard = set old.heard x true; hold = old.hold })
+      station_changed R values B w t i s.receiver (hearing old x)
       (set w.letters (cell w.n s.receiver x) l) (noting t s) to notes_apart (λ p q e hq. cell_kept w.letters w.n s.receiver x l hx p q hq (λ z _. e z)) (record {
         round = at.round;
         limit = at.limit;
@@ -143,7 +143,7 @@ module _ {S L : Type 0} (R : Behaviour S L) (values : List ℕ) (B : ℕ) (w : W
       let a = at.live up in
       let n_is : w.n ≡ length values = i.n_is in
       let ahead : t.rounds s.receiver < s.round = omega (arith, at.round) in
-      station_changed R values B w t i s.receiver (record { round = old.round; stand = old.stand; heard = old.heard; hold = Some (record { sender = s.sender; round = s.round }) })
+      station_changed R values B w t i s.receiver (holding old (record { sender = s.sender; round = s.round }))
       (set w.letters (cell w.n s.receiver w.n) l) (noting t s) to notes_apart (λ p q e hq. cell_kept w.letters w.n s.receiver w.n l (omega arith) p q hq (λ z _. e z)) (record {
         round = at.round;
         limit = at.limit;
@@ -179,7 +179,7 @@ module _ {S L : Type 0} (R : Behaviour S L) (face : Interface R) (laws : Laws R)
 
   -- the tally without the slip
   abbrev t₁ : Tally
-  t₁ = record { rounds = t.rounds; slips = swap_out nowhere t.slips k; notes = t.notes; triples = t.triples }
+  t₁ = record t { slips = swap_out nowhere t.slips k }
 
   frame_is : (h : k < w.frames) → let c = i.carried k (omega (arith, i.frames_are)) in
       frame_at R w k ≡ Some ((s.sender, s.receiver, s.round, c.letter))
@@ -196,8 +196,8 @@ module _ {S L : Type 0} (R : Behaviour S L) (face : Interface R) (laws : Laws R)
   come : (o : Option Refusal) → before ≡ o → Follows R values B (result_err (outcome o (frame_at R w k)).0) (outcome o (frame_at R w k)).1 t (noted t₁ s)
   come (Some r) e = i
   come None e =
-      let b = sound R w _ e in
-      let h : k < w.frames = leb-false w.frames k (passed (leb w.frames k) _ _ b.1).0 in
+      let b = sound_below R w w.frames k _ _ e in
+      let h : k < w.frames = b.1 in
       let c = i.carried k (omega (arith, i.frames_are)) in
       let l : L = c.letter in
       let f : Frame L = (s.sender, s.receiver, s.round, l) in

@@ -1,8 +1,8 @@
 -- How a world and a tally stand to one another after the same calls, and what stays of that as rounds go by. Assumes nothing.
-use Rattle.std.proofs.Common.{◌≡◌, ℕ, ◌+◌, ◌-◌, ◌*◌, ◌<◌, ◌≤◌, Bool, true, false, cond, ◌&&◌, ◌||◌, eqb, List, [], ◌∷◌, ◌++◌, map, length, get_or, replicate, Some, None, Option, sym, refl, ◌∙◌, arith}
+use Rattle.std.proofs.Common.{◌≡◌, ℕ, ◌+◌, ◌-◌, ◌*◌, ◌<◌, ◌≤◌, Bool, true, false, cond, ◌&&◌, ◌||◌, eqb, leb, List, [], ◌∷◌, ◌++◌, map, length, get_or, replicate, Some, None, Option, sym, refl, ◌∙◌, arith}
 use Rattle.std.specs.Result.{result_err}
 use Rattle.std.specs.List.{slice_get}
-use Rattle.std.proofs.lemmas.Bool.{or_parts, ltb-false, eqb-true, not-false}
+use Rattle.std.proofs.lemmas.Bool.{or_parts, ltb-false, leb-false, eqb-true, not-false}
 use Rattle.rules.specs.Rule.{Behaviour, Heard, lockstep}
 use Rattle.frames.specs.Frame.{pack_frame}
 use Rattle.protocol.specs.declared.types.Held.{Held}
@@ -143,6 +143,14 @@ module _ {S L : Type 0} (R : Behaviour S L) where
       let a = passed (eqb w.n 0) Shut (cond (mismatched R w) (Some BufferMismatch) o) e in
       let b = passed (mismatched R w) BufferMismatch o a.1 in
       (matched w b.0, b.1)
+
+  -- and the third test of most of them: x is below m, a station below the number of stations or a place below that of frames
+  pub sound_below : (w : World S L) (m x : ℕ) (f : Refusal) (o : Option Refusal) → cond (eqb w.n 0) (Some Shut) (cond (mismatched R w) (Some BufferMismatch) (cond (leb m x) (Some f) o)) ≡ None →
+      Matched w × (x < m) × (o ≡ None)
+  sound_below w m x f o e =
+      let b = sound w (cond (leb m x) (Some f) o) e in
+      let c = passed (leb m x) f o b.1 in
+      (b.0, leb-false m x c.0, c.1)
 
   -- what a call comes to: the tally moves on if it is accepted, and stays if it is refused
   abbrev pub Follows : List ℕ → ℕ → Option Refusal → World S L → Tally → Tally → Type 0

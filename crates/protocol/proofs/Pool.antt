@@ -1,7 +1,7 @@
 -- An accepted drop or repeat keeps the invariant. Assumes nothing.
-use Rattle.std.proofs.Common.{◌≡◌, ℕ, ◌+◌, ◌-◌, ◌<◌, ◌≤◌, false, eqb, leb, List, [], ◌∷◌, ◌++◌, length, get_or, set, sym, inl, inr, arith}
+use Rattle.std.proofs.Common.{◌≡◌, ℕ, ◌+◌, ◌-◌, ◌<◌, ◌≤◌, false, eqb, List, [], ◌∷◌, ◌++◌, length, get_or, set, sym, inl, inr, arith}
 use Rattle.std.proofs.lemmas.List.{length_push, get_or_push, get_or_append_left, get_or-set_same, get_or-set_other}
-use Rattle.std.proofs.lemmas.Bool.{cases_eq, leb-false, eqb-false}
+use Rattle.std.proofs.lemmas.Bool.{cases_eq, eqb-false}
 use Rattle.rules.specs.Rule.{Behaviour}
 use Rattle.frames.specs.Pool.{take_out}
 use Rattle.protocol.specs.declared.types.Step.TheVariants.{Drop, Repeat}
@@ -11,13 +11,13 @@ use Rattle.protocol.specs.Tally.{Tally, Slip, nowhere, swap_out, tally_accepted}
 use Rattle.protocol.proofs.Places.{length_out, origin}
 use Rattle.protocol.proofs.Change.{pool_changed}
 use Rattle.rules.proofs.Options.{passed}
-use Rattle.protocol.proofs.Invariant.{Inv, Matched, sound, Follows, attempted}
+use Rattle.protocol.proofs.Invariant.{Inv, Matched, sound_below, Follows, attempted}
 
 module _ {S L : Type 0} (R : Behaviour S L) (values : List ℕ) (B : ℕ) (w : World S L) (t : Tally) (i : Inv R values B w t) where
   -- the frame at place k leaves the pool
   pub frame_out :
       (k : ℕ) → k < w.frames → Matched R w →
-      Inv R values B (without_frame R w k) (record { rounds = t.rounds; slips = swap_out nowhere t.slips k; notes = t.notes; triples = t.triples })
+      Inv R values B (without_frame R w k) (record t { slips = swap_out nowhere t.slips k })
   frame_out k h m =
       let ex : length t.slips ≡ w.frames = sym i.frames_are in
       let ey : w.frames ≤ length w.pool = omega (arith, i.room, m.pool) in
@@ -29,14 +29,13 @@ module _ {S L : Type 0} (R : Behaviour S L) (values : List ℕ) (B : ℕ) (w : W
   pub dropped : (k : ℕ) → Follows R values B (step R w (Drop k)).0 (step R w (Drop k)).1 t (tally_accepted R values t (Drop k))
   unfolding step tally_accepted
   dropped k = attempted R values B w (without_frame R w k) _ 0 t (tally_accepted R values t (Drop k)) i (λ fine.
-      let b = sound R w _ fine in
-      let c = passed (leb w.frames k) _ _ b.1 in
-      frame_out k (leb-false w.frames k c.0) b.0)
+      let b = sound_below R w w.frames k _ _ fine in
+      frame_out k b.1 b.0)
 
   frame_in :
       (k : ℕ) → k < w.frames → Matched R w → w.frames < w.pool_len →
       Inv R values B (with_pool R w (w.frames + 1) (set w.pool w.frames (get_or w.pool k 0)))
-      (record { rounds = t.rounds; slips = t.slips ++ (get_or t.slips k nowhere ∷ []); notes = t.notes; triples = t.triples })
+      (record t { slips = t.slips ++ (get_or t.slips k nowhere ∷ []) })
   frame_in k h m free =
       let s : Slip = get_or t.slips k nowhere in
       pool_changed R values B w t i (w.frames + 1) (set w.pool w.frames (get_or w.pool k 0)) (t.slips ++ (s ∷ []))
@@ -54,7 +53,6 @@ module _ {S L : Type 0} (R : Behaviour S L) (values : List ℕ) (B : ℕ) (w : W
   pub repeated : (k : ℕ) → Follows R values B (step R w (Repeat k)).0 (step R w (Repeat k)).1 t (tally_accepted R values t (Repeat k))
   unfolding step tally_accepted
   repeated k = attempted R values B w (with_pool R w (w.frames + 1) (set w.pool w.frames (get_or w.pool k 0))) _ w.frames t (tally_accepted R values t (Repeat k)) i (λ fine.
-      let b = sound R w _ fine in
-      let c = passed (leb w.frames k) _ _ b.1 in
-      let d = passed (eqb w.frames w.pool_len) _ _ c.1 in
-      frame_in k (leb-false w.frames k c.0) b.0 (room_left d.0))
+      let b = sound_below R w w.frames k _ _ fine in
+      let d = passed (eqb w.frames w.pool_len) _ _ b.2 in
+      frame_in k b.1 b.0 (room_left d.0))

@@ -1,7 +1,7 @@
 -- An accepted send keeps the invariant: its frames are the tally's slips, and a held letter of the station's round is taken in. Assumes nothing.
-use Rattle.std.proofs.Common.{◌≡◌, ℕ, zero, suc, ◌+◌, ◌-◌, ◌*◌, ◌<◌, ◌≤◌, Bool, true, false, ◌&&◌, ◌||◌, eqb, ltb, leb, List, ◌∷◌, ◌++◌, length, get_or, set, Some, None, Option, sym, refl, ap, ◌∙◌, subst, inl, inr, arith}
+use Rattle.std.proofs.Common.{◌≡◌, ℕ, zero, suc, ◌+◌, ◌-◌, ◌*◌, ◌<◌, ◌≤◌, Bool, true, false, ◌&&◌, ◌||◌, eqb, ltb, List, ◌∷◌, ◌++◌, length, get_or, set, Some, None, Option, sym, refl, ap, ◌∙◌, subst, inl, inr, arith}
 use Rattle.std.proofs.lemmas.List.{length-set, length-append, get_or_append_left, get_or-append_right, get_or-set_same, get_or-set_other}
-use Rattle.std.proofs.lemmas.Bool.{cases_eq, cases_lt, leb-false, ltb-false, eq-eqb, ne_eqb, true≢false, false≢true, and_right}
+use Rattle.std.proofs.lemmas.Bool.{cases_eq, cases_lt, ltb-false, eq-eqb, ne_eqb, true≢false, false≢true, and_right}
 use Rattle.rules.specs.Rule.{Behaviour, lockstep}
 use Rattle.rules.specs.Lists.{put}
 use Rattle.frames.specs.Frame.{pack_frame}
@@ -17,7 +17,7 @@ use Rattle.rules.proofs.Tables.{get_or_put_below, get_or_put_in}
 use Rattle.protocol.proofs.Places.{nth_some, cell_within, cell_written, cell_kept}
 use Rattle.rules.proofs.Options.{none_some, passed}
 use Rattle.protocol.proofs.Holds.{due_some, due_none}
-use Rattle.protocol.proofs.Invariant.{Inv, Carry, Seated, Matched, sound, Follows, attempted}
+use Rattle.protocol.proofs.Invariant.{Inv, Carry, Seated, Matched, sound_below, Follows, attempted}
 use Rattle.protocol.proofs.Change.{pool_changed, station_changed}
 
 fresh_is : (x : Stand) → is_down x ≡ false → is_listening x ≡ false → is_fresh x ≡ true
@@ -81,7 +81,7 @@ module _ {S L : Type 0} (R : Behaviour S L) (values : List ℕ) (B : ℕ) (w : W
   v = with_pool R w (w.frames + length ws) (put w.pool w.frames ws)
 
   abbrev t₁ : Tally
-  t₁ = record { rounds = t.rounds; slips = t.slips ++ ss; notes = t.notes; triples = t.triples }
+  t₁ = record t { slips = t.slips ++ ss }
 
   pooled : Matched R w → ltb (w.pool_len - w.frames) (length ws) ≡ false → Inv R values B v t₁
   pooled m e =
@@ -118,7 +118,7 @@ module _ {S L : Type 0} (R : Behaviour S L) (values : List ℕ) (few : length va
   old = station w p
 
   abbrev plain : World S L
-  plain = with_stations R w (set w.stations p (record { round = old.round; stand = Listening; heard = old.heard; hold = old.hold }))
+  plain = with_stations R w (set w.stations p (record old { stand = Listening }))
 
   abbrev inner : ℕ → World S L
   inner x = with_letters R (with_stations R w (set w.stations p (listened old (Some x)))) (taken_in w.n p (Some x) w.letters)
@@ -127,7 +127,7 @@ module _ {S L : Type 0} (R : Behaviour S L) (values : List ℕ) (few : length va
   plainly apart =
       let at : Seated R values w t p = i.seats p h in
       let a = at.live up in
-      station_changed R values B w t i p (record { round = old.round; stand = Listening; heard = old.heard; hold = old.hold }) w.letters t.notes h
+      station_changed R values B w t i p (record old { stand = Listening }) w.letters t.notes h
       (λ p' r q e. refl) (λ p' q e l. refl) (record {
         round = at.round;
         limit = at.limit;
@@ -154,9 +154,9 @@ module _ {S L : Type 0} (R : Behaviour S L) (values : List ℕ) (few : length va
       let l = nth_some w.letters (cell w.n p w.n) (omega (arith, letters, cell_within w.n p w.n (omega arith) (omega arith))) in
       let c : ℕ = cell w.n p x.sender in
       subst (λ o. Inv R values B (with_letters R
-      (with_stations R w (set w.stations p (record { round = old.round; stand = Listening; heard = set old.heard x.sender true; hold = None })))
+      (with_stations R w (set w.stations p (record old { stand = Listening; heard = set old.heard x.sender true; hold = None })))
       (elim o [ None ↦ w.letters | Some l ↦ set w.letters (cell w.n p x.sender) l ])) t) (sym l.1)
-      (station_changed R values B w t i p (record { round = old.round; stand = Listening; heard = set old.heard x.sender true; hold = None })
+      (station_changed R values B w t i p (record old { stand = Listening; heard = set old.heard x.sender true; hold = None })
       (set w.letters c l.0) t.notes h (λ p' r q e. refl)
       (λ p' q d hq. cell_kept w.letters w.n p x.sender l.0 hx p' q hq (λ z _. d z)) (record {
         round = at.round;
@@ -187,12 +187,11 @@ module _ {S L : Type 0} (R : Behaviour S L) (values : List ℕ) (few : length va
   pub sends : (p : ℕ) → Follows R values B (step R w (Send p)).0 (step R w (Send p)).1 t (tally_accepted R values t (Send p))
   unfolding step tally_accepted
   sends p = attempted R values B w (sent R w p) (send_refusal R w p) (length (frames_of R w p)) t (tally_accepted R values t (Send p)) i (λ fine.
-      let b = sound R w _ fine in
       let n_is = i.n_is in
-      let c = passed (leb w.n p) _ _ b.1 in
-      let d = passed (is_down (station w p).stand) _ _ c.1 in
+      let b = sound_below R w w.n p _ _ fine in
+      let d = passed (is_down (station w p).stand) _ _ b.2 in
       let e = passed (is_listening (station w p).stand) _ _ d.1 in
       let f = passed (ltb (w.pool_len - w.frames) (length (frames_of R w p))) _ _ e.1 in
-      let h : p < length values = omega (arith, leb-false w.n p c.0) in
+      let h : p < length values = omega (arith, b.1) in
       let j = pooled R values B w t i p h b.0 f.0 in
       begun R values few B (v R values B w t i p h) (t₁ R values B w t i p h) j b.0.letters p h d.0 (fresh_is (station w p).stand d.0 e.0) (due (station w p).hold (station w p).round) refl)

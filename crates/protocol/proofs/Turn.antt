@@ -1,8 +1,9 @@
 -- An accepted turn keeps the invariant: the new entry is the tally's triple, and the new state is the lockstep run's. Assumes nothing.
-use Rattle.std.proofs.Common.{◌≡◌, ℕ, suc, ◌+◌, ◌-◌, ◌<◌, ◌≤◌, Bool, true, false, cond, ◌&&◌, ◌||◌, eqb, leb, List, [], ◌∷◌, ◌++◌, map, length, get_or, set, replicate, Some, None, Option, sym, refl, ap, ◌∙◌, inl, inr, add-one, arith}
+use Rattle.std.proofs.Common.{◌≡◌, ℕ, suc, ◌+◌, ◌-◌, ◌<◌, ◌≤◌, true, false, cond, ◌&&◌, eqb, List, [], ◌∷◌, ◌++◌, map, length, get_or, set, replicate, Some, None, Option, sym, refl, ap, ◌∙◌, inl, inr, add-one, arith}
 use Rattle.std.specs.List.{slice_get}
+use Rattle.std.proofs.Math.Bool.{or-false}
 use Rattle.std.proofs.lemmas.List.{length-set, length_push, length-map, length-append, length-replicate, get_or-set_same, get_or-set_other, ext_get_or, set_at, map_push, append_assoc}
-use Rattle.std.proofs.lemmas.Bool.{cases_eq, cases_Bool, leb-false, eqb-true, eqb-false, eq-eqb, ne_eqb, true≢false, false≢true, cond_both, cond-true, cond-false, and_parts, and_left, and_right}
+use Rattle.std.proofs.lemmas.Bool.{cases_eq, cases_Bool, eqb-true, eqb-false, eq-eqb, ne_eqb, true≢false, false≢true, cond_both, cond-true, cond-false, and_parts, and_left, and_right}
 use Rattle.rules.specs.Lists.{tabulate}
 use Rattle.rules.specs.Rule.{Behaviour, Heard, letter_heard, lockstep}
 use Rattle.frames.specs.Book.{pack_entry}
@@ -18,11 +19,7 @@ use Rattle.rules.proofs.Tables.{length_tabulate, get_or_tabulate, get_or_replica
 use Rattle.protocol.proofs.Words.{Whole}
 use Rattle.rules.proofs.Runs.{Known, run_grows}
 use Rattle.rules.proofs.Options.{passed}
-use Rattle.protocol.proofs.Invariant.{Inv, Live, Seat, Seated, Over, Grows, held, seat_kept, carry_kept, brought_kept, Matched, sound, Follows, attempted}
-
-or_false : (b : Bool) → (b || false) ≡ b
-or_false true = refl
-or_false false = refl
+use Rattle.protocol.proofs.Invariant.{Inv, Live, Seat, Seated, Over, Grows, held, seat_kept, carry_kept, brought_kept, Matched, sound_below, Follows, attempted}
 
 -- ---- one more triple
 heard_before : (ts : List Triple) (u : Triple) (p k q : ℕ) → (u.station ≡ p → u.round ≡ k → ⊥) → heard_in (ts ++ (u ∷ [])) p k q ≡ heard_in ts p k q
@@ -126,7 +123,7 @@ module _ {S L : Type 0} (R : Behaviour S L) (values : List ℕ) (B : ℕ) (w : W
   held_later (Some x) later q = and_left (eqb x.round rd) (eqb x.sender q) (ne_eqb x.round rd (λ z. absurd (omega (arith, later x refl))))
 
   heard_now : (q : ℕ) → t.notes p rd q ≡ get_or s.heard q false
-  heard_now q = a.noted rd q (omega arith) ∙ rw (eq-eqb rd rd refl, held_later s.hold (a.later ready) q) (or_false (get_or s.heard q false))
+  heard_now q = a.noted rd q (omega arith) ∙ rw (eq-eqb rd rd refl, held_later s.hold (a.later ready) q) (or-false (get_or s.heard q false))
 
   heard_is : tabulate 16 (t.notes p rd) ≡ s.heard
   heard_is = ext_get_or false (tabulate 16 (t.notes p rd)) s.heard (length_tabulate 16 (t.notes p rd) ∙ sym a.places)
@@ -171,7 +168,7 @@ module _ {S L : Type 0} (R : Behaviour S L) (values : List ℕ) (B : ℕ) (w : W
       step ∙ ap (λ k. lockstep R values Hn k p) (sym e)
 
   abbrev then : Record
-  then = record { round = s.round + 1; stand = Fresh; heard = replicate 16 false; hold = s.hold }
+  then = record s { round = s.round + 1; stand = Fresh; heard = replicate 16 false }
 
   seat_then :
       eqb s.round 4095 ≡ false → (x : S) → x ≡ R.next w.n p s.round (state_of R w p) (mailbox_of R w p) →
@@ -226,11 +223,10 @@ module _ {S L : Type 0} (R : Behaviour S L) (values : List ℕ) (B : ℕ) (w : W
   pub turns : (p : ℕ) → Follows R values B (step R w (Turn p)).0 (step R w (Turn p)).1 t (tally_accepted R values t (Turn p))
   unfolding step
   turns p = attempted R values B w (turned R w p) (turn_refusal R w p) ((station w p).round + 1) t (tally_accepted R values t (Turn p)) i (λ fine.
-      let b = sound R w _ fine in
       let n_is = i.n_is in
-      let c = passed (leb w.n p) _ _ b.1 in
-      let d = passed (is_down (station w p).stand) _ _ c.1 in
+      let b = sound_below R w w.n p _ _ fine in
+      let d = passed (is_down (station w p).stand) _ _ b.2 in
       let e = passed (is_fresh (station w p).stand) _ _ d.1 in
       let f = passed (eqb w.entries w.book_len) _ _ e.1 in
       let g = passed (eqb (station w p).round 4095) _ _ f.1 in
-      turned_well R values B w t i p (omega (arith, leb-false w.n p c.0)) d.0 e.0 b.0 f.0 g.0)
+      turned_well R values B w t i p (omega (arith, b.1)) d.0 e.0 b.0 f.0 g.0)

@@ -19,7 +19,7 @@ use Rattle.frames.specs.Frame.{Frame, pack_frame, read_frame}
 use Rattle.frames.specs.Book.{pack_entry}
 use Rattle.frames.specs.Pool.{take_out}
 use Rattle.protocol.specs.Refusals.{first_refusal}
-use Rattle.protocol.specs.World.{World, blank, station}
+use Rattle.protocol.specs.World.{World, blank, hearing, holding, station}
 
 -- a refused call leaves everything as it was
 abbrev pub attempt : {A W : Type 0} → W → Option Refusal → A → W → Result A Refusal × W
@@ -56,8 +56,8 @@ due (Some h) k = cond (h.round == k) (Some h.sender) None
 
 -- the record of a station that begins to listen, and the sender of the held letter that it takes in
 abbrev pub listened : Record → Option ℕ → Record
-listened s None = record { round = s.round; stand = Listening; heard = s.heard; hold = s.hold }
-listened s (Some q) = record { round = s.round; stand = Listening; heard = slice_set s.heard q true; hold = None }
+listened s None = record s { stand = Listening }
+listened s (Some q) = record s { stand = Listening; heard = slice_set s.heard q true; hold = None }
 
 -- the letter of one cell copied into another
 abbrev pub copied : {L : Type 0} → List L → ℕ → ℕ → List L
@@ -88,12 +88,8 @@ judged s q k = elim (reception_refusal s) [ Some r ↦ Err r | None ↦ Ok (fate
 abbrev pub received_stations : {L : Type 0} → List Record → Frame L → Fate → List Record
 received_stations rs f Late = rs
 received_stations rs f Again = rs
-received_stations rs f Taken =
-    let s : Record = get_or rs f.1 blank in
-    slice_set rs f.1 (record { round = s.round; stand = s.stand; heard = slice_set s.heard f.0 true; hold = s.hold })
-received_stations rs f Early =
-    let s : Record = get_or rs f.1 blank in
-    slice_set rs f.1 (record { round = s.round; stand = s.stand; heard = s.heard; hold = Some (record { sender = f.0; round = f.2 }) })
+received_stations rs f Taken = slice_set rs f.1 (hearing (get_or rs f.1 blank) f.0)
+received_stations rs f Early = slice_set rs f.1 (holding (get_or rs f.1 blank) (record { sender = f.0; round = f.2 }))
 
 -- the letters likewise: the frame's letter lies in its sender's cell, or in the last cell of the receiver's row
 abbrev pub received_letters : {L : Type 0} → ℕ → List L → Frame L → Fate → List L
@@ -105,46 +101,13 @@ received_letters n ls f Early = slice_set ls (cell n f.1 n) f.3
 module _ {S L : Type 0} (R : Behaviour S L) where
   -- ---- changes of a world
   abbrev pub with_stations : World S L → List Record → World S L
-  with_stations w x = record {
-    n = w.n;
-    pool_len = w.pool_len;
-    book_len = w.book_len;
-    frames = w.frames;
-    entries = w.entries;
-    stations = x;
-    states = w.states;
-    letters = w.letters;
-    pool = w.pool;
-    book = w.book;
-  }
+  with_stations w x = record w { stations = x }
 
   abbrev pub with_pool : World S L → ℕ → List ℕ → World S L
-  with_pool w c x = record {
-    n = w.n;
-    pool_len = w.pool_len;
-    book_len = w.book_len;
-    frames = c;
-    entries = w.entries;
-    stations = w.stations;
-    states = w.states;
-    letters = w.letters;
-    pool = x;
-    book = w.book;
-  }
+  with_pool w c x = record w { frames = c; pool = x }
 
   abbrev pub with_letters : World S L → List L → World S L
-  with_letters w x = record {
-    n = w.n;
-    pool_len = w.pool_len;
-    book_len = w.book_len;
-    frames = w.frames;
-    entries = w.entries;
-    stations = w.stations;
-    states = w.states;
-    letters = x;
-    pool = w.pool;
-    book = w.book;
-  }
+  with_letters w x = record w { letters = x }
 
   -- the frame at place k leaves the pool
   abbrev pub without_frame : World S L → ℕ → World S L
@@ -293,16 +256,10 @@ module _ {S L : Type 0} (R : Behaviour S L) where
   abbrev pub turned : World S L → ℕ → World S L
   turned w p =
       let s : Record = station w p in
-      record {
-        n = w.n;
-        pool_len = w.pool_len;
-        book_len = w.book_len;
-        frames = w.frames;
+      record w {
         entries = w.entries + 1;
-        stations = slice_set w.stations p (record { round = s.round + 1; stand = Fresh; heard = replicate 16 false; hold = s.hold });
+        stations = slice_set w.stations p (record s { round = s.round + 1; stand = Fresh; heard = replicate 16 false });
         states = slice_set w.states p (R.next w.n p s.round (state_of w p) (mailbox_of w p));
-        letters = w.letters;
-        pool = w.pool;
         book = slice_set w.book w.entries (pack_entry p s.round s.heard);
       }
 
@@ -323,7 +280,7 @@ module _ {S L : Type 0} (R : Behaviour S L) where
       let s : Record = station w p in
       attempt w (crash_refusal w p)
       0
-      (with_stations w (slice_set w.stations p (record { round = s.round; stand = Down; heard = s.heard; hold = s.hold })))
+      (with_stations w (slice_set w.stations p (record s { stand = Down })))
 
   -- ---- look
   abbrev pub look_refusal : World S L → ℕ → Option Refusal

@@ -57,21 +57,17 @@ module _ {S L : Type 0} (R : Behaviour S L) (values : List ℕ) where
 
   -- what an accepted call adds
   unfoldable pub tally_accepted : Tally → Step → Tally
-  tally_accepted t (Send p) = record { rounds = t.rounds; slips = t.slips ++ slips_from t p 0 (length values); notes = t.notes; triples = t.triples }
+  tally_accepted t (Send p) = record t { slips = t.slips ++ slips_from t p 0 (length values) }
   tally_accepted t (Deliver k) =
       let s : Slip = get_or t.slips k nowhere in
-      record {
-        rounds = t.rounds;
+      record t {
         slips = swap_out nowhere t.slips k;
         notes = λ p r q. t.notes p r q || (s.receiver == p && s.round == r && s.sender == q && not (nat_lt s.round (t.rounds s.receiver)));
-        triples = t.triples;
       }
-  tally_accepted t (Drop k) = record { rounds = t.rounds; slips = swap_out nowhere t.slips k; notes = t.notes; triples = t.triples }
-  tally_accepted t (Repeat k) = record { rounds = t.rounds; slips = t.slips ++ (slice_index_or t.slips k nowhere ∷ []); notes = t.notes; triples = t.triples }
-  tally_accepted t (Turn p) = record {
+  tally_accepted t (Drop k) = record t { slips = swap_out nowhere t.slips k }
+  tally_accepted t (Repeat k) = record t { slips = t.slips ++ (slice_index_or t.slips k nowhere ∷ []) }
+  tally_accepted t (Turn p) = record t {
     rounds = λ x. cond (x == p) (t.rounds p + 1) (t.rounds x);
-    slips = t.slips;
-    notes = t.notes;
     triples = t.triples ++ (record { station = p; round = t.rounds p; heard = tabulate 16 (t.notes p (t.rounds p)) } ∷ []);
   }
   tally_accepted t (Crash p) = t

@@ -27,10 +27,10 @@ blank = record { round = 0; stand = Fresh; heard = replicate 16 false; hold = No
 
 -- the record of a station that heard q, and of one that holds a letter
 abbrev pub hearing : Record → ℕ → Record
-hearing s q = record { round = s.round; stand = s.stand; heard = slice_set s.heard q true; hold = s.hold }
+hearing s q = record s { heard = slice_set s.heard q true }
 
 abbrev pub holding : Record → Held → Record
-holding s h = record { round = s.round; stand = s.stand; heard = s.heard; hold = Some h }
+holding s h = record s { hold = Some h }
 
 -- the record of station p
 abbrev pub station : {S L : Type 0} → World S L → ℕ → Record
