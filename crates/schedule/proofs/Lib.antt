@@ -1,4 +1,3 @@
-pub mod Adding
 pub mod Answered
 pub mod Cutting
 pub mod Filling
@@ -9,7 +8,6 @@ pub mod Numbers
 pub mod Played
 pub mod ReadBack
 pub mod ReadOnly
-pub mod Shares
 pub mod Sizes
 pub mod Steps
 pub mod Values

@@ -1,5 +1,5 @@
 -- The listing of a finished run, byte by byte. Assumes nothing.
-use Rattle.std.specs.Prelude.{◌≡◌, ℕ, ◌+◌, ◌-◌, ◌≤◌, List, [], ◌∷◌, ◌++◌, length, replicate, Some, None, codes, decimal, Option, slice_set}
+use Rattle.std.specs.Prelude.{◌≡◌, ℕ, ◌-◌, ◌≤◌, List, ◌++◌, length, take, replicate, Some, None, codes, decimal, Option}
 use Rattle.protocol.specs.declared.types.Sight.{Sight}
 use Rattle.protocol.specs.declared.types.Stand.{Stand}
 use Rattle.protocol.specs.declared.types.Stand.TheVariants.{Fresh, Listening, Down}
@@ -10,21 +10,14 @@ use Rattle.schedule.specs.Faults.{fault_number, fault_line}
 use Rattle.schedule.specs.declared.line.Line.{Line}
 
 -- ---- a line of 64 cells
-unfoldable pub blank_line : Line
-blank_line = record { cells = replicate 64 32; length = 0 }
-
-abbrev pub put_byte : Line → ℕ → Line
-put_byte line b = record { cells = slice_set line.cells line.length b; length = line.length + 1 }
-
-unfoldable pub put_all : Line → List ℕ → Line
-put_all line [] = line
-put_all line (b ∷ bs) = put_all (put_byte line b) bs
+abbrev pub written : Line → List ℕ
+written line = take line.filled line.cells
 
 -- the cells hold the text, and blanks after it
 pub record Holds (line : Line) (text : List ℕ) : Type 0 where
   pub fits : length text ≤ 64
   pub cells : line.cells ≡ text ++ replicate (64 - length text) 32
-  pub length_is : line.length ≡ length text
+  pub length_is : line.filled ≡ length text
 
 -- ---- the lines
 abbrev pub refusal_text : ℕ → Refusal → List ℕ

@@ -1,16 +1,16 @@
 -- The whole listing of a finished run. Every line ends in byte 10. Assumes nothing.
-use Rattle.std.specs.Prelude.{ℕ, suc, List, [], ◌∷◌, ◌++◌, length, take}
+use Rattle.std.specs.Prelude.{ℕ, suc, List, [], ◌∷◌, ◌++◌, length}
 use Rattle.protocol.specs.declared.types.Sight.{Sight}
 use Rattle.schedule.specs.declared.line.Line.{Line}
 use Rattle.schedule.specs.declared.types.Fault.{Fault}
 use Rattle.schedule.specs.declared.printer.RefusedStep.{RefusedStep}
-use Rattle.schedule.specs.Listing.{refusal_text, station_text, book_text, fault_text}
+use Rattle.schedule.specs.Listing.{written, refusal_text, station_text, book_text, fault_text}
 use Rattle.schedule.specs.Reception.{reception_of}
 use Rattle.schedule.specs.Writing.{ended}
 
 -- what is printed of a line's cells
 abbrev pub shown : Line → List ℕ
-shown line = ended (take line.length line.cells)
+shown line = ended (written line)
 
 abbrev pub refusals_text : List RefusedStep → List ℕ
 refusals_text [] = []

@@ -1,62 +1,55 @@
 // One line of the listing: 64 cells, with blanks after the text.
-ghost use Rattle.std.specs.Prelude.{◌≡◌, ◌+◌, ◌<◌, ◌≤◌, length, take, decimal};
-ghost use Rattle.schedule.specs.Listing.{blank_line, put_byte, put_all};
+ghost use Rattle.std.specs.Prelude.{◌≡◌, ◌+◌, ◌-◌, ◌≤◌, [], ◌++◌, length, take, drop, replicate, decimal};
 
+use itoa::Buffer;
+
+// The listing's format asks for 64 bytes and blanks after the text, so it stands in cells, with a count of those that it fills.
 #[derive(Clone, Copy)]
 pub(crate) struct Line {
-    pub cells: [u8; 64],
-    pub length: usize,
+    cells: [u8; 64],
+    filled: usize,
+    ghost whole: { length cells ≡ 64 },
+    ghost within: { filled ≤ 64 },
+    ghost blank: { drop filled cells ≡ replicate (64 - filled) 32 },
 }
 
 impl Line {
+    ghost use Rattle.schedule.specs.Listing.{written};
+
     // A line of blanks.
     pub(crate) fn blank() -> Line
-        ensures after { result ≡ blank_line }
-        ensures room { result.length ≡ 0 }
+        ensures { written result ≡ [] }
     {
         Line {
             cells: [b' '; 64],
-            length: 0,
+            filled: 0,
         }
-    }
-
-    // The one place where a byte is stored in a cell.
-    fn put(&mut self, byte: u8)
-        requires { self.old.length < 64 }
-        ensures { self.new ≡ put_byte self.old byte }
-    {
-        self.cells[self.length] = byte;
-        self.length += 1;
     }
 
     // Writes bytes after what is written.
     pub(crate) fn word(&mut self, text: &[u8])
-        requires { self.old.length + length text.now ≤ 64 }
-        ensures after { self.new ≡ put_all self.old text.now }
-        ensures room { self.new.length ≡ self.old.length + length text.now }
+        requires { length (written self.old) + length text.now ≤ 64 }
+        ensures after { written self.new ≡ written self.old ++ text.now }
+        ensures room { length (written self.new) ≡ length (written self.old) + length text.now }
     {
-        for byte in text {
-            self.put(*byte);
-        }
+        let end = self.filled + text.len();
+        self.cells[self.filled..end].copy_from_slice(text);
+        self.filled = end;
     }
 
     // Writes a number in decimal digits, without leading zeros.
     pub(crate) fn number(&mut self, n: usize)
-        requires { self.old.length + length (decimal n) ≤ 64 }
-        ensures after { self.new ≡ put_all self.old (decimal n) }
-        ensures room { self.new.length ≡ self.old.length + length (decimal n) }
+        requires { length (written self.old) + length (decimal n) ≤ 64 }
+        ensures after { written self.new ≡ written self.old ++ decimal n }
+        ensures room { length (written self.new) ≡ length (written self.old) + length (decimal n) }
     {
-        if n >= 10 {
-            self.number(n / 10);
-        }
-        self.put(b'0' + (n % 10) as u8);
+        self.word(Buffer::new().format(n).as_bytes());
     }
 
     // The text, without the blanks after it.
     pub(crate) fn text(&self) -> &[u8]
-        requires { self.now.length ≤ 64 }
-        ensures { result.now ≡ take self.now.length self.now.cells }
+        ensures { result.now ≡ written self.now }
     {
-        &self.cells[0..self.length]
+        &self.cells[..self.filled]
     }
 }

@@ -1,6 +1,6 @@
-// The lines of the listing.
-ghost use Rattle.std.specs.Prelude.{◌≡◌, ◌+◌, ◌<◌, ◌≤◌};
-ghost use Rattle.schedule.specs.Listing.{Holds, put_all, refusal_text, stand_text, hull_text, station_text, book_text, fault_text};
+// The lines of the listing, by calls that cannot fail: of a `write!` into the cells of a line no contract says that it is Ok.
+ghost use Rattle.std.specs.Prelude.{◌≡◌, ◌+◌, ◌<◌, ◌≤◌, ◌++◌, length};
+ghost use Rattle.schedule.specs.Listing.{Holds, written, refusal_text, stand_text, hull_text, station_text, book_text, fault_text};
 
 use crate::line::Line;
 use crate::types::Fault;
@@ -8,6 +8,7 @@ use protocol::refusal::Refusal;
 use protocol::types::{Sight, Stand};
 
 // The line of a refused step.
+#[tactic(auto, using(crate::proofs::Filling::decimal_20))]
 pub(crate) fn refusal_line(line: usize, refusal: Refusal) -> Line
     ensures { Holds result (refusal_text line refusal) }
 {
@@ -32,9 +33,9 @@ fn stand_word(stand: Stand) -> &'static [u8]
 
 // The hull that a station shows, or none.
 fn hull_into(out: &mut Line, hull: Option<u16>)
-    requires { out.old.length ≤ 50 }
-    ensures after { out.new ≡ put_all out.old (hull_text hull) }
-    ensures room { out.new.length ≤ out.old.length + 11 }
+    requires { length (written out.old) + length (hull_text hull) ≤ 64 }
+    ensures after { written out.new ≡ written out.old ++ hull_text hull }
+    ensures room { length (written out.new) ≡ length (written out.old) + length (hull_text hull) }
 {
     match hull {
         Some(value) => {
@@ -46,6 +47,7 @@ fn hull_into(out: &mut Line, hull: Option<u16>)
 }
 
 // The line of a station.
+#[tactic(auto, using(crate::proofs::Filling::short))]
 pub(crate) fn station_line(station: usize, sight: Sight, air: usize) -> Line
     requires { (station < 16) × (air < 10000) }
     ensures { Holds result (station_text station sight air) }
@@ -63,6 +65,7 @@ pub(crate) fn station_line(station: usize, sight: Sight, air: usize) -> Line
 }
 
 // The line that counts the book's entries.
+#[tactic(auto, using(crate::proofs::Filling::decimal_20))]
 pub(crate) fn book_line(entries: usize) -> Line
     ensures { Holds result (book_text entries) }
 {
@@ -73,6 +76,7 @@ pub(crate) fn book_line(entries: usize) -> Line
 }
 
 // The one line that is printed of a faulty schedule.
+#[tactic(auto, using(crate::proofs::Filling::decimal_20))]
 pub(crate) fn fault_line(fault: Fault) -> Line
     ensures { Holds result (fault_text fault) }
 {

@@ -19,7 +19,6 @@ pub(crate) struct RefusedStep {
 
 // Adds a line and its end. Where memory fails, nothing is said of `out`.
 fn add(out: &mut Vec<u8>, line: &Line) -> Result<(), AllocError>
-    requires { line.now.length ≤ 64 }
     ensures { OnOk result (out.new.items ≡ out.old.items ++ shown line.now) }
 {
     out.extend_from_slice(line.text())?;
@@ -32,8 +31,7 @@ fn add_refusals(out: &mut Vec<u8>, refused: &[RefusedStep]) -> Result<(), AllocE
     ensures { OnOk result (out.new.items ≡ out.old.items ++ refusals_text refused.now) }
 {
     for step in refused {
-        let line = refusal_line(step.line, step.refusal);
-        add(out, &line)?;
+        add(out, &refusal_line(step.line, step.refusal))?;
     }
     Ok(())
 }
@@ -45,8 +43,7 @@ fn add_stations(out: &mut Vec<u8>, stations: &[Sight], book: &[u64]) -> Result<(
 {
     for (station, sight) in stations.iter().enumerate() {
         let air = reception(stations.len(), station, book);
-        let line = station_line(station, *sight, air);
-        add(out, &line)?;
+        add(out, &station_line(station, *sight, air))?;
     }
     Ok(())
 }
@@ -64,8 +61,7 @@ pub(crate) fn listing(
     let mut out = Vec::new(heap);
     add_refusals(&mut out, refused)?;
     add_stations(&mut out, stations, book)?;
-    let line = book_line(book.len());
-    add(&mut out, &line)?;
+    add(&mut out, &book_line(book.len()))?;
     Ok(out)
 }
 
@@ -74,7 +70,6 @@ pub(crate) fn fault_listing(heap: Global, fault: Fault) -> Result<Vec<u8>, Alloc
     ensures { IfOk result (λ v. v.items ≡ fault_listing_text fault) }
 {
     let mut out = Vec::new(heap);
-    let line = fault_line(fault);
-    add(&mut out, &line)?;
+    add(&mut out, &fault_line(fault))?;
     Ok(out)
 }

@@ -7,7 +7,7 @@ use protocol::types::Step;
 use std::alloc::{AllocError, AllocFailed};
 
 // The rules that a schedule can name.
-#[derive(Clone, Copy)]
+#[derive(Clone, Copy, Debug, PartialEq, Eq)]
 pub enum RuleName {
     Third,
     Last,
@@ -22,7 +22,7 @@ pub struct Schedule {
 }
 
 // What is wrong with a text. The last two hold the number of the line, counted from 1.
-#[derive(Clone, Copy)]
+#[derive(Clone, Copy, Debug, PartialEq, Eq)]
 pub enum Fault {
     // The text has more than 65,536 bytes.
     TooLong,
@@ -37,7 +37,7 @@ pub enum Fault {
 }
 
 impl Fault {
-    // The number by which the fault is told.
+    // The number by which the fault is told. Two cases hold a line, so no `as` gives it.
     pub fn number(&self) -> u8
         ensures { result ≡ fault_number self.now }
     {

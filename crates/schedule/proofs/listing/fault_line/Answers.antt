@@ -1,23 +1,5 @@
-use Rattle.std.proofs.Common.{codes, decimal, ap, ◌∙◌, arith}
-use Rattle.schedule.specs.Listing.{blank_line, put_all}
-use Rattle.schedule.specs.Faults.{fault_number, fault_line}
-use Rattle.schedule.proofs.Filling.{put_first, put_then, blank_holds, decimal_20}
+use Rattle.schedule.proofs.Filling.{holds}
 use Rattle.schedule.proofs.listing.fault_line.Goals as goal
 
-pub number-requires : goal.number-requires
-number-requires c = omega (arith, decimal_20)
-
-pub word-requires-2 : goal.word-requires-2
-word-requires-2 c = omega (arith, decimal_20)
-
-pub number-requires-2 : goal.number-requires-2
-number-requires-2 c = omega (arith, decimal_20)
-
 pub returns : goal.returns
-returns c =
-    let fault = c.args.fault in
-    let a = put_first _ c.word.new.self (codes "fault ") c.blank-out.ensures.after c.word.ensures.after in
-    let b = put_then blank_line _ c.number.new.self _ (decimal (fault_number fault)) a (c.number.ensures.after ∙ ap (λ n. put_all c.word.new.self (decimal n)) c.number-told.ensures) in
-    let d = put_then blank_line _ c.word-2.new.self _ (codes " line ") b c.word-2.ensures.after in
-    let e = put_then blank_line _ c.number-2.new.self _ (decimal (fault_line fault)) d (c.number-2.ensures.after ∙ ap (λ n. put_all c.word-2.new.self (decimal n)) c.line-place.ensures) in
-    blank_holds c.number-2.new.self _ (omega (arith, decimal_20)) e
+returns c = holds c.number-2.new.self _ (rw (c.number-2.ensures.after, c.word-2.ensures.after, c.number.ensures.after, c.word.ensures.after, c.blank-out.ensures, c.number-told.ensures, c.line-place.ensures))
