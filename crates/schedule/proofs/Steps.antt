@@ -78,6 +78,9 @@ module _ (text rest : List ℕ) (xs : List Step) (k : ℕ) (late : 3 ≤ k) (inv
   stops_wrong bytes after cut e =
       ap at_least_one (sym inv ∙ ap (λ ps. prepend xs (steps_from k ps)) cut ∙ ap (prepend xs) (step_wrong k late bytes after e))
 
+  pub stops_short : pieces 10 rest ≡ rest ∷ [] → 0 < length rest → at_least_one (steps_from 3 (pieces 10 text)) ≡ Err (Unfinished k)
+  stops_short cut some = ap at_least_one (sym inv ∙ ap (λ ps. prepend xs (steps_from k ps)) cut ∙ ap (prepend xs) (step_unfinished k late rest some))
+
   pub goes_on : (bytes after : List ℕ) (s : Step) → pieces 10 rest ≡ bytes ∷ pieces 10 after → Some s ≡ step_line bytes → prepend (xs ++ s ∷ []) (steps_from (suc k) (pieces 10 after)) ≡ steps_from 3 (pieces 10 text)
   goes_on bytes after s cut e =
       sym (prepend_more xs s (steps_from (suc k) (pieces 10 after))) ∙ ap (prepend xs) (sym (step_more k late bytes s after e)) ∙ ap (λ ps. prepend xs (steps_from k ps)) (sym cut) ∙ inv

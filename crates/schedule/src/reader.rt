@@ -1,9 +1,9 @@
 // From the text of a schedule to the schedule.
-ghost use Rattle.std.specs.Prelude.{◌≡◌, ◌<◌, ◌≤◌, [], ◌∷◌, length, IfOk, vec_items, MatchOption, MatchResult, ◌==◌};
+ghost use Rattle.std.specs.Prelude.{◌≡◌, ◌<◌, ◌≤◌, [], ◌∷◌, length, IfOk, vec_items, MatchResult, ◌==◌};
 ghost use Rattle.std.specs.List.{position};
 ghost use Rattle.std.specs.Option.{option_map};
 ghost use Rattle.schedule.specs.declared.types.Fault.TheVariants.{Unfinished};
-ghost use Rattle.schedule.specs.Reading.{pieces, pieces_after, number_in, rule_line, values_line, step_of, step_line, ReadsSteps, Reads};
+ghost use Rattle.schedule.specs.Reading.{pieces, number_in, rule_line, values_line, step_of, step_line, ReadsSteps, Reads};
 ghost use Rattle.schedule.specs.Judging.{ReadingLaws};
 
 use crate::types::{Fault, ReadError, RuleName, Schedule};
@@ -17,24 +17,6 @@ const MAX_VALUES: usize = 16;
 
 // The first line that has a step.
 pub(crate) const FIRST_STEP: usize = 3;
-
-// Where the first mark stands.
-fn first_mark(bytes: &[u8], mark: u8) -> Option<usize>
-    ensures { result ≡ position (λ byte. byte == mark) bytes.now }
-{
-    bytes.iter().position(|byte| *byte == mark)
-}
-
-// The bytes before the first mark, and those after it; all of them and none where there is no mark.
-fn first_piece(bytes: &[u8], mark: u8) -> (&[u8], Option<&[u8]>)
-    ensures cut { pieces mark bytes.now ≡ result.0.now ∷ pieces_after mark (option_map (λ x. x.now) result.1) }
-    ensures shorter { MatchOption result.1 (result.0.now ≡ bytes.now) (λ after. length after.now < length bytes.now) }
-{
-    match first_mark(bytes, mark) {
-        Some(at) => (&bytes[..at], Some(&bytes[at + 1..])),
-        None => (bytes, None),
-    }
-}
 
 // The number that the digits write: 0 to 65,535 without leading zeros. A call for each step would cost 5 % more instructions.
 #[inline(always)]
@@ -70,13 +52,11 @@ fn rule_line(line: &[u8]) -> Option<RuleName>
 fn values_line(heap: Global, line: &[u8]) -> Result<Option<Vec<u16>>, AllocError>
     ensures { IfOk result (λ values. option_map vec_items values ≡ values_line line.now) }
 {
-    let (word, mut rest) = first_piece(line, b' ');
-    if word != b"values".as_slice() {
+    let Some(numbers) = line.strip_prefix(b"values ") else {
         return Ok(None);
-    }
+    };
     let mut values = Vec::new(heap);
-    while let Some(text) = rest {
-        let (digits, after) = first_piece(text, b' ');
+    for digits in numbers.split(|byte| *byte == b' ') {
         let Some(value) = number(digits) else {
             return Ok(None);
         };
@@ -84,10 +64,6 @@ fn values_line(heap: Global, line: &[u8]) -> Result<Option<Vec<u16>>, AllocError
             return Ok(None);
         }
         values.push(value)?;
-        rest = after;
-    }
-    if values.is_empty() {
-        return Ok(None);
     }
     Ok(Some(values))
 }
@@ -118,15 +94,20 @@ fn step_line(line: &[u8]) -> Option<Step>
     step(*letter as char, place as usize)
 }
 
+// Where the first line ends.
+fn line_end(text: &[u8]) -> Option<usize>
+    ensures { result ≡ position (λ byte. byte == 10) text.now }
+{
+    text.iter().position(|byte| *byte == b'\n')
+}
+
 // A line that ends, and what stands after its end.
 fn finished_line(text: &[u8], line: usize) -> Result<(&[u8], &[u8]), Fault>
     ensures cut { MatchResult result (λ x. pieces 10 text.now ≡ x.0.now ∷ pieces 10 x.1.now) (λ f. (f ≡ Unfinished line) × (pieces 10 text.now ≡ text.now ∷ [])) }
     ensures shorter { IfOk result (λ x. length x.1.now < length text.now) }
 {
-    match first_piece(text, b'\n') {
-        (bytes, Some(rest)) => Ok((bytes, rest)),
-        (_, None) => Err(Fault::Unfinished(line)),
-    }
+    let end = line_end(text).ok_or(Fault::Unfinished(line))?;
+    Ok((&text[..end], &text[end + 1..]))
 }
 
 // The steps of the lines from the third on, of which there is one at least.
@@ -136,13 +117,13 @@ fn read_steps(heap: Global, text: &[u8]) -> Result<Vec<Step>, ReadError>
 {
     // A step's line has four bytes at least.
     let mut steps = Vec::with_capacity(heap, text.len() / 4)?;
-    let mut rest = text;
-    while !rest.is_empty() {
-        let line = steps.len() + FIRST_STEP;
-        let (bytes, after) = finished_line(rest, line)?;
-        let step = step_line(bytes).ok_or(Fault::WrongStep(line))?;
+    for line in text.split_inclusive(|byte| *byte == b'\n') {
+        let number = steps.len() + FIRST_STEP;
+        let [line @ .., b'\n'] = line else {
+            return Err(ReadError::Faulty(Fault::Unfinished(number)));
+        };
+        let step = step_line(line).ok_or(Fault::WrongStep(number))?;
         steps.push(step)?;
-        rest = after;
     }
     if steps.is_empty() {
         return Err(ReadError::Faulty(Fault::Unfinished(FIRST_STEP)));
