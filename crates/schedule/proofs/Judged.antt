@@ -1,7 +1,8 @@
 -- A text is answered by a fault exactly where its lines have that fault; and the laws of reading. Assumes nothing.
-use Rattle.std.proofs.Common.{◌≡◌, ℕ, zero, suc, ◌+◌, ◌<◌, ◌≤◌, Bool, true, false, cond, not, ◌&&◌, eqb, ltb, ◌⊎◌, List, [], ◌∷◌, ◌++◌, length, is_some, Some, None, Ok, Err, Option, Result, sym, refl, ap, ◌∙◌, subst, inl, inr, append_assoc, arith}
+use Rattle.std.proofs.lemmas.Bool.Decides.{nat_tests}
+use Rattle.std.proofs.Common.{◌≡◌, ℕ, zero, suc, ◌+◌, ◌<◌, ◌≤◌, Bool, true, false, cond, ◌&&◌, eqb, ltb, ◌⊎◌, List, [], ◌∷◌, ◌++◌, length, is_some, Some, None, Ok, Err, Option, Result, sym, refl, ap, ◌∙◌, subst, inl, inr, append_assoc, arith}
 use Rattle.std.specs.List.{flat_map, AllByRecursion}
-use Rattle.std.proofs.lemmas.Bool.{and_from, and_left, and_right, ne_eqb, eqb-false, ltb-true, ltb-false, le-ltb, cond-true, cond-false, cases_Bool, false≢true}
+use Rattle.std.proofs.lemmas.Bool.{eqb-false, ltb-true, ltb-false, cond-true, cond-false, cases_Bool, false≢true}
 use Rattle.rules.proofs.Options.{none_some, same_some}
 use Rattle.schedule.specs.declared.types.Fault.{Fault}
 use Rattle.schedule.specs.declared.types.Fault.TheVariants.{TooLong, WrongRule, WrongValues, WrongStep, Unfinished}
@@ -17,7 +18,7 @@ use Rattle.schedule.proofs.ReadOnly.{schedule_only, ok_err, some_is, text_is, ru
 -- ---- a text and its lines
 plain : (bs : List ℕ) → Unbroken bs → without 10 bs ≡ true
 plain [] u = refl
-plain (b ∷ bs) u = and_from (not (eqb b 10)) _ (ap not (ne_eqb b 10 u.0)) (plain bs u.1)
+plain (b ∷ bs) u = grind (arith, nat_tests, u.0, plain bs u.1)
 
 unbroken_pieces : (bs : List ℕ) → AllByRecursion Unbroken (pieces 10 bs)
 unfolding pieces
@@ -130,15 +131,11 @@ lost k (l ∷ ls) line later h rights bad =
 
 none_wrong : (k : ℕ) (lines : List (List ℕ)) → 1 ≤ k → first_wrong k lines ≡ None → AllRight k lines
 none_wrong k [] h e = tt
-none_wrong k (l ∷ ls) h e = go (right k l) refl e (none_wrong (suc k) ls (omega arith))
-  where
-    go : (t : Bool) → right k l ≡ t → cond t (first_wrong (suc k) ls) (Some (fault_at k)) ≡ None → (first_wrong (suc k) ls ≡ None → AllRight (suc k) ls) → AllRight k (l ∷ ls)
-    go true g e' further = (right_says k l h g, further e')
-    go false g e' further = none_some (sym e')
+none_wrong k (l ∷ ls) h e = (right_says k l h (grind arith), none_wrong (suc k) ls (omega arith) (grind arith))
 
 all_right : (k : ℕ) (lines : List (List ℕ)) → AllRight k lines → first_wrong k lines ≡ None
 all_right k [] rights = refl
-all_right k (l ∷ ls) rights = cond-true (right k l) _ _ (says_right k l rights.0) ∙ all_right (suc k) ls rights.1
+all_right k (l ∷ ls) rights = grind (arith, says_right k l rights.0, all_right (suc k) ls rights.1)
 
 -- ---- the text's fault
 module _ (text : List ℕ) where
@@ -180,8 +177,8 @@ module _ (text : List ℕ) where
       )
     where
       stopped : (a : Bool) → eqb (length rest) 0 ≡ a → (a && ltb 2 (length lines)) ≡ false → (0 < length rest) ⊎ (length lines + 1 ≤ 3)
-      stopped true ea eb = inr (omega (arith, ltb-false 2 (length lines) eb))
-      stopped false ea eb = inl (omega (arith, eqb-false (length rest) 0 ea))
+      stopped true ea eb = inr (grind (arith, nat_tests))
+      stopped false ea eb = inl (grind (arith, nat_tests))
 
   pub told_fault : (f : Fault) → read_text text ≡ Err f → HasFault text f
   unfolding read_text read_lines
@@ -206,10 +203,7 @@ module _ (text : List ℕ) where
       let both = cut_lines text s.lines s.rest s.cut in
       let n : length s.lines + 1 ≡ k = omega (arith, s.number) in
       let first : first_wrong 1 s.lines ≡ None = all_right 1 s.lines s.right in
-      let test : (eqb (length s.rest) 0 && ltb 2 (length s.lines)) ≡ false = elim s.stops [
-        | inl some ↦ and_left (eqb (length s.rest) 0) _ (ne_eqb (length s.rest) 0 (omega arith))
-        | inr few ↦ and_right (eqb (length s.rest) 0) _ (le-ltb 2 (length s.lines) (omega (arith, s.number)))
-      ] in
+      let test : (eqb (length s.rest) 0 && ltb 2 (length s.lines)) ≡ false = grind (arith, nat_tests, s.number, s.stops) in
       by_pieces_is text short ∙ ap (λ ls. read_lines ls (unfinished text)) both.0 ∙ ap (read_lines s.lines) both.1
       ∙ ap (λ o. unless o (cond (eqb (length s.rest) 0 && ltb 2 (length s.lines)) (Ok (plan_in s.lines)) (Err (Unfinished (length s.lines + 1))))) first
       ∙ cond-false (eqb (length s.rest) 0 && ltb 2 (length s.lines)) _ _ test ∙ ap (λ (j : ℕ). Err (Unfinished j)) n

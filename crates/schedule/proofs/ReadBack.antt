@@ -1,14 +1,15 @@
 -- Reading a written schedule gives it back. Assumes nothing.
-use Rattle.std.proofs.Common.{◌≡◌, ℕ, suc, ◌+◌, ◌%◌, ◌<◌, ◌≤◌, Bool, true, false, not, ◌&&◌, eqb, ltb, List, [], ◌∷◌, ◌++◌, map, length, Some, None, Ok, codes, decimal, sym, refl, ap, ◌∙◌, append_assoc, append-nil, arith}
+use Rattle.std.proofs.lemmas.Bool.Decides.{nat_tests}
+use Rattle.std.proofs.Common.{◌≡◌, ℕ, suc, ◌+◌, ◌%◌, ◌<◌, ◌≤◌, Bool, true, false, not, ◌&&◌, eqb, List, [], ◌∷◌, ◌++◌, map, length, Some, Ok, codes, decimal, sym, refl, ap, ◌∙◌, append_assoc, append-nil, arith}
 use lib.ListN.{length-map}
 use Rattle.std.specs.List.{flat_map, AllByRecursion}
 use Rattle.std.proofs.lemmas.Fmt.{decimal_by_steps}
-use Rattle.std.proofs.lemmas.Bool.{cond-true, cond-false, and_from, and_parts, not-true, lt-ltb, eq-eqb, ne_eqb}
+use Rattle.std.proofs.lemmas.Bool.{cond-true, eq-eqb}
 use Rattle.protocol.specs.declared.types.Step.{Step}
 use Rattle.protocol.specs.declared.types.Step.TheVariants.{Send, Deliver, Drop, Repeat, Turn, Crash}
 use Rattle.schedule.specs.declared.types.RuleName.{RuleName}
 use Rattle.schedule.specs.declared.types.RuleName.TheVariants.{Third, Last}
-use Rattle.schedule.specs.Reading.{onto_first, pieces, with_first, numbers_in, values_in, values_line, rule_line, step_with, step_line, Plan, read_text, steps_from, at_least_one}
+use Rattle.schedule.specs.Reading.{pieces, numbers_in, values_line, rule_line, step_with, step_line, Plan, read_text, steps_from, at_least_one}
 use Rattle.schedule.specs.Writing.{write_rule, write_value, letter_of, number_of, write_step, ended, write_schedule, Fits}
 use Rattle.schedule.proofs.Numbers.{number_back}
 use Rattle.schedule.proofs.Steps.{prepend, step_more}
@@ -21,12 +22,10 @@ without mark (b ∷ bs) = not (eqb b mark) && without mark bs
 
 pub without_append : (mark : ℕ) (xs bs : List ℕ) → without mark xs ≡ true → without mark bs ≡ true → without mark (xs ++ bs) ≡ true
 without_append mark [] bs p q = q
-without_append mark (a ∷ xs) bs p q =
-    let both = and_parts (not (eqb a mark)) (without mark xs) p in
-    and_from (not (eqb a mark)) _ both.0 (without_append mark xs bs both.1 q)
+without_append mark (a ∷ xs) bs p q = grind (arith, without_append mark xs bs, q)
 
 plain : (mark b : ℕ) (bs : List ℕ) → mark < 48 → 48 ≤ b → without mark bs ≡ true → without mark (b ∷ bs) ≡ true
-plain mark b bs low high p = and_from (not (eqb b mark)) _ (ap not (ne_eqb b mark (omega arith))) p
+plain mark b bs low high p = grind (arith, nat_tests)
 
 pub without_decimal : (mark n : ℕ) → mark < 48 → n < 65536 → without mark (decimal n) ≡ true
 without_decimal mark n low small = decimal_by_steps (λ m ds. without mark ds ≡ true)
@@ -38,16 +37,12 @@ without_decimal mark n low small = decimal_by_steps (λ m ds. without mark ds �
 pub pieces_line : (mark : ℕ) (line rest : List ℕ) → without mark line ≡ true → pieces mark (line ++ mark ∷ rest) ≡ line ∷ pieces mark rest
 unfolding pieces
 pieces_line mark [] rest p = cond-true (eqb mark mark) _ _ (eq-eqb mark mark refl)
-pieces_line mark (b ∷ line) rest p =
-    let both = and_parts (not (eqb b mark)) (without mark line) p in
-    cond-false (eqb b mark) _ _ (not-true (eqb b mark) both.0) ∙ ap (onto_first b) (pieces_line mark line rest both.1)
+pieces_line mark (b ∷ line) rest p = grind (arith, nat_tests, pieces_line mark line rest)
 
 pub pieces_all : (mark : ℕ) (line : List ℕ) → without mark line ≡ true → pieces mark line ≡ line ∷ []
 unfolding pieces
 pieces_all mark [] p = refl
-pieces_all mark (b ∷ line) p =
-    let both = and_parts (not (eqb b mark)) (without mark line) p in
-    cond-false (eqb b mark) _ _ (not-true (eqb b mark) both.0) ∙ ap (onto_first b) (pieces_all mark line both.1)
+pieces_all mark (b ∷ line) p = grind (arith, nat_tests, pieces_all mark line)
 
 -- ---- the values
 words_back : (word : List ℕ) (vs : List ℕ) → without 32 word ≡ true → AllByRecursion (λ n. n < 65536) vs → pieces 32 (word ++ flat_map write_value vs) ≡ word ∷ map decimal vs
@@ -57,14 +52,13 @@ words_back word (v ∷ vs) p fit =
 
 numbers_back : (vs : List ℕ) → AllByRecursion (λ n. n < 65536) vs → numbers_in (map decimal vs) ≡ Some vs
 numbers_back [] fit = refl
-numbers_back (v ∷ vs) fit =
-    ap (λ o. with_first o (numbers_in (map decimal vs))) (number_back v fit.0) ∙ ap (with_first (Some v)) (numbers_back vs fit.1)
+numbers_back (v ∷ vs) fit = grind (arith, number_back v fit.0, numbers_back vs fit.1)
 
 pub values_back : (vs : List ℕ) → 0 < length vs → length vs ≤ 16 → AllByRecursion (λ n. n < 65536) vs → Some vs ≡ values_line (codes "values" ++ flat_map write_value vs)
 values_back vs some few fit =
     let count : length (map decimal vs) ≡ length vs = length-map vs decimal in
     let words = words_back (codes "values") vs refl fit in
-    sym (ap values_in words ∙ cond-true (ltb 0 (length (map decimal vs)) && ltb (length (map decimal vs)) 17) (numbers_in (map decimal vs)) None (and_from (ltb 0 (length (map decimal vs))) _ (lt-ltb 0 (length (map decimal vs)) (omega arith)) (lt-ltb (length (map decimal vs)) 17 (omega arith))) ∙ numbers_back vs fit)
+    grind (arith, nat_tests, words, numbers_back vs fit, count)
 
 without_values : (vs : List ℕ) → AllByRecursion (λ n. n < 65536) vs → without 10 (flat_map write_value vs) ≡ true
 without_values [] fit = refl
@@ -91,8 +85,7 @@ letter_plain (Turn n) = refl
 letter_plain (Crash n) = refl
 
 without_step : (s : Step) → number_of s < 65536 → without 10 (write_step s) ≡ true
-without_step s fit =
-    and_from (not (eqb (letter_of s) 10)) _ (ap not (letter_plain s)) (without_decimal 10 (number_of s) (omega arith) fit)
+without_step s fit = grind (arith, letter_plain s, without_decimal 10 (number_of s) (omega arith) fit)
 
 -- a line's end, and the rest
 pub ended_then : (line rest : List ℕ) → ended line ++ rest ≡ line ++ 10 ∷ rest

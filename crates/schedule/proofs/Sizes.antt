@@ -1,11 +1,10 @@
 -- Every call keeps the number of stations and the lengths of the buffers, so whoever looks after a run is not refused. Assumes nothing.
-use Rattle.std.proofs.Common.{◌≡◌, ℕ, ◌+◌, ◌*◌, ◌<◌, ◌≤◌, false, not, ◌||◌, eqb, ltb, leb, List, [], ◌∷◌, length, get_or, drop, set, Some, None, Err, Option, Result, sym, refl, ap, ◌∙◌, arith}
+use Rattle.std.proofs.lemmas.Bool.Decides.{nat_tests}
+use Rattle.std.proofs.Common.{◌≡◌, ℕ, ◌+◌, ◌*◌, ◌<◌, ◌≤◌, List, [], ◌∷◌, length, get_or, drop, set, Some, None, Err, Option, Result, sym, refl, ◌∙◌, arith}
 use Rattle.std.specs.List.{slice_get}
 use Rattle.std.proofs.lemmas.List.{length-set, length-append, length-replicate}
-use Rattle.std.proofs.lemmas.Bool.{cond-false, or_parts, or_from, ne_eqb, le-ltb, lt-leb, ltb-false, eq-eqb}
 use Rattle.rules.specs.Rule.{Behaviour}
 use Rattle.rules.specs.Lists.{tabulate}
-use Rattle.rules.proofs.Options.{passed}
 use Rattle.rules.proofs.Tables.{length_put, length_tabulate}
 use Rattle.frames.specs.Frame.{Frame}
 use Rattle.frames.specs.Pool.{take_out}
@@ -17,7 +16,7 @@ use Rattle.protocol.specs.declared.types.Stand.TheVariants.{Down}
 use Rattle.protocol.specs.declared.types.Step.{Step}
 use Rattle.protocol.specs.declared.types.Step.TheVariants.{Send, Deliver, Drop, Repeat, Turn, Crash}
 use Rattle.protocol.specs.World.{World, station}
-use Rattle.protocol.specs.Calls.{attempt, cell, taken_in, due, received_letters, opened, open_refusal, mismatched, look_refusal, frames_of, sent, send_refusal, without_frame, fate_of, received, receiver_refusal, place_refusal, frame_at, repeat_refusal, with_pool, with_stations, deliver_call, turned, turn_refusal, crash_refusal, step, after}
+use Rattle.protocol.specs.Calls.{attempt, cell, taken_in, due, received_letters, opened, open_refusal, look_refusal, frames_of, sent, send_refusal, without_frame, fate_of, received, receiver_refusal, place_refusal, frame_at, repeat_refusal, with_pool, with_stations, deliver_call, turned, turn_refusal, crash_refusal, step, after}
 use Rattle.protocol.proofs.Invariant.{Matched}
 
 -- ---- lengths of cells
@@ -139,16 +138,7 @@ module _ {S L : Type 0} (R : Behaviour S L) where
 
   pub accepted : (new : World S L) (values : List ℕ) → open_refusal R new values ≡ None → Accepted new values
   accepted new values fine =
-      let n : ℕ = length values in
-      let a = passed (not (eqb new.n 0)) _ _ fine in
-      let b = passed (eqb n 0 || ltb R.most n) _ _ a.1 in
-      let c = passed (eqb (length new.pool) 0 || ltb 4096 (length new.pool) || ltb 65536 (length new.book)) _ _ b.1 in
-      let d = passed (ltb (length new.states) n || ltb (length new.letters) (n * (n + 1))) _ _ c.1 in
-      record {
-        few = ltb-false R.most n (or_parts (eqb n 0) (ltb R.most n) b.0).1;
-        book = ltb-false 65536 (length new.book) (or_parts (eqb (length new.pool) 0 || ltb 4096 (length new.pool)) (ltb 65536 (length new.book)) c.0).1;
-        letters = ltb-false (length new.letters) (n * (n + 1)) (or_parts (ltb (length new.states) n) (ltb (length new.letters) (n * (n + 1))) d.0).1;
-      }
+      record { few = grind (arith, nat_tests, fine); book = grind (arith, nat_tests, fine); letters = grind (arith, nat_tests, fine) }
 
   opened_matched : (new : World S L) (values : List ℕ) → open_refusal R new values ≡ None → Matched R (opened R new values)
   opened_matched new values fine =
@@ -171,12 +161,7 @@ module _ {S L : Type 0} (R : Behaviour S L) where
 
   look_fine : (w : World S L) (p : ℕ) → Matched R w → p < w.n → look_refusal R w p ≡ None
   look_fine w p m h =
-      let states : ltb (length w.states) w.n ≡ false = le-ltb (length w.states) w.n m.states in
-      let letters : ltb (length w.letters) (w.n * (w.n + 1)) ≡ false = le-ltb (length w.letters) (w.n * (w.n + 1)) m.letters in
-      let pool : not (eqb (length w.pool) w.pool_len) ≡ false = ap not (eq-eqb (length w.pool) w.pool_len m.pool) in
-      let book : not (eqb (length w.book) w.book_len) ≡ false = ap not (eq-eqb (length w.book) w.book_len m.book) in
-      let fits : mismatched R w ≡ false = or_from _ _ (or_from _ _ (or_from _ _ states letters) pool) book in
-      cond-false (eqb w.n 0) _ _ (ne_eqb w.n 0 (omega arith)) ∙ cond-false (mismatched R w) _ _ fits ∙ cond-false (leb w.n p) _ _ (lt-leb w.n p h)
+      grind (arith, nat_tests, m.states, m.letters, m.pool, m.book)
 
   -- whoever looks at a station after a run is not refused
   pub looks : (new : World S L) (values : List ℕ) (cs : List Step) (p : ℕ) → open_refusal R new values ≡ None → p < length values → look_refusal R (after R (opened R new values) cs) p ≡ None
@@ -190,9 +175,4 @@ module _ {S L : Type 0} (R : Behaviour S L) where
 
   -- an opening that is refused nothing
   pub opens : (new : World S L) (values : List ℕ) → new.n ≡ 0 → 0 < length values → length values ≤ R.most → 0 < length new.pool → length new.pool ≤ 4096 → length new.book ≤ 65536 → length values ≤ length new.states → length values * (length values + 1) ≤ length new.letters → open_refusal R new values ≡ None
-  opens new values shut some few pool pool-few book states letters =
-      let n : ℕ = length values in
-      cond-false (not (eqb new.n 0)) _ _ (ap not (eq-eqb new.n 0 shut))
-      ∙ cond-false (eqb n 0 || ltb R.most n) _ _ (or_from (eqb n 0) _ (ne_eqb n 0 (omega arith)) (le-ltb R.most n few))
-      ∙ cond-false (eqb (length new.pool) 0 || ltb 4096 (length new.pool) || ltb 65536 (length new.book)) _ _ (or_from _ _ (or_from _ _ (ne_eqb (length new.pool) 0 (omega arith)) (le-ltb 4096 (length new.pool) pool-few)) (le-ltb 65536 (length new.book) book))
-      ∙ cond-false (ltb (length new.states) n || ltb (length new.letters) (n * (n + 1))) _ _ (or_from _ _ (le-ltb (length new.states) n states) (le-ltb (length new.letters) (n * (n + 1)) letters))
+  opens new values shut some few pool pool-few book states letters = grind (arith, nat_tests, shut, some, few, pool, pool-few, book, states, letters)

@@ -1,32 +1,28 @@
 -- The step lines, line by line, and the whole text. Assumes nothing.
-use Rattle.std.proofs.Common.{◌≡◌, ℕ, suc, ◌+◌, ◌<◌, ◌≤◌, Bool, true, false, cond, eqb, List, [], ◌∷◌, ◌++◌, length, is_some, Some, None, Ok, Err, Option, Result, sym, refl, ap, ◌∙◌, append_assoc, append-nil, arith}
+use Rattle.std.proofs.lemmas.Grind.{common_steps}
+use Rattle.std.proofs.Common.{◌≡◌, ℕ, suc, ◌<◌, ◌≤◌, Bool, true, false, cond, eqb, List, [], ◌∷◌, ◌++◌, length, is_some, Some, None, Ok, Err, Result, sym, refl, ap, ◌∙◌, append-nil, arith}
 use Rattle.std.proofs.lemmas.List.{nil_from_length}
-use Rattle.std.proofs.lemmas.Bool.{cond-true, cond-false, ne_eqb}
+use Rattle.std.proofs.lemmas.Bool.Decides.{nat_tests}
 use Rattle.protocol.specs.declared.types.Step.{Step}
 use Rattle.schedule.specs.declared.types.Fault.{Fault}
 use Rattle.schedule.specs.declared.types.Fault.TheVariants.{WrongStep, Unfinished}
-use Rattle.schedule.specs.Reading.{onto_first, pieces, all_but_last, last_of, step_line, right, wrong, first_wrong, and_step, steps_in, unless, steps_from, at_least_one}
+use Rattle.schedule.specs.Reading.{onto_first, pieces, step_line, right, wrong, steps_from, at_least_one}
 
 -- steps read before those of the lines that are left
 abbrev pub prepend : List Step → Result (List Step) Fault → Result (List Step) Fault
 prepend xs (Ok ys) = Ok (xs ++ ys)
 prepend xs (Err f) = Err f
 
-pub prepend_none : (r : Result (List Step) Fault) → prepend [] r ≡ r
-prepend_none (Ok ys) = refl
-prepend_none (Err f) = refl
-
 pub prepend_more : (xs : List Step) (s : Step) (r : Result (List Step) Fault) → prepend xs (prepend (s ∷ []) r) ≡ prepend (xs ++ s ∷ []) r
-prepend_more xs s (Ok ys) = ap (λ (l : List Step). Ok l) (sym (append_assoc xs (s ∷ []) ys))
+prepend_more xs s (Ok ys) = grind (arith, common_steps)
 prepend_more xs s (Err f) = refl
 
 -- from the third line on every line is a step
 pub right_later : (k : ℕ) (line : List ℕ) → 3 ≤ k → right k line ≡ is_some (step_line line)
-right_later k line l =
-    cond-false (eqb k 1) _ _ (ne_eqb k 1 (omega arith)) ∙ cond-false (eqb k 2) _ _ (ne_eqb k 2 (omega arith))
+right_later k line l = grind (arith, nat_tests)
 
 pub wrong_later : (k : ℕ) → 3 ≤ k → wrong k ≡ WrongStep k
-wrong_later k l = cond-false (eqb k 1) _ _ (ne_eqb k 1 (omega arith)) ∙ cond-false (eqb k 2) _ _ (ne_eqb k 2 (omega arith))
+wrong_later k l = grind (arith, nat_tests)
 
 -- there is always a piece
 pub some_piece : (mark : ℕ) (bs : List ℕ) → (p : List ℕ) × (ps : List (List ℕ)) × (pieces mark bs ≡ p ∷ ps)
@@ -41,25 +37,10 @@ some_piece mark (b ∷ bs) = go (eqb b mark) (pieces mark bs)
 
 module _ (k : ℕ) (late : 3 ≤ k) (line : List ℕ) where
   step_then : (s : Step) (p : List ℕ) (ps : List (List ℕ)) → step_line line ≡ Some s → steps_from k (line ∷ p ∷ ps) ≡ prepend (s ∷ []) (steps_from (suc k) (p ∷ ps))
-  step_then s p ps e =
-      let good : right k line ≡ true = right_later k line late ∙ ap is_some e in
-      let first : first_wrong k (line ∷ all_but_last (p ∷ ps)) ≡ first_wrong (suc k) (all_but_last (p ∷ ps)) = cond-true (right k line) _ _ good in
-      let steps : steps_in (line ∷ all_but_last (p ∷ ps)) ≡ s ∷ steps_in (all_but_last (p ∷ ps)) = ap (λ o. and_step o (steps_in (all_but_last (p ∷ ps)))) e in
-      let count : suc (length (all_but_last (p ∷ ps))) + k ≡ length (all_but_last (p ∷ ps)) + suc k = omega arith in
-      go (first_wrong (suc k) (all_but_last (p ∷ ps))) (eqb (length (last_of (p ∷ ps))) 0) _ _ _ _ _ first steps count
-    where
-      go : (w : Option Fault) (t : Bool) (w' : Option Fault) (ss ss' : List Step) (m m' : ℕ) → w' ≡ w → ss' ≡ s ∷ ss → m' ≡ m → unless w' (cond t (Ok ss') (Err (Unfinished m'))) ≡ prepend (s ∷ []) (unless w (cond t (Ok ss) (Err (Unfinished m))))
-      go None true w' ss ss' m m' a b c = rw (a, b)
-      go None false w' ss ss' m m' a b c = rw (a, c)
-      go (Some f) t w' ss ss' m m' a b c = rw a
+  step_then s p ps e = grind (arith, right_later k line late, e)
 
   wrong_then : (p : List ℕ) (ps : List (List ℕ)) → step_line line ≡ None → steps_from k (line ∷ p ∷ ps) ≡ Err (WrongStep k)
-  wrong_then p ps e =
-      let first : first_wrong k (line ∷ all_but_last (p ∷ ps)) ≡ Some (wrong k) = cond-false (right k line) _ _ (right_later k line late ∙ ap is_some e) in
-      go _ _ first
-    where
-      go : (o : Option Fault) (r : Result (List Step) Fault) → o ≡ Some (wrong k) → unless o r ≡ Err (WrongStep k)
-      go o r same = rw same (ap (λ (f : Fault). Err f) (wrong_later k late))
+  wrong_then p ps e = grind (arith, right_later k line late, wrong_later k late, e)
 
   -- a right line, a wrong one, and one that does not end
   pub step_more : (s : Step) (after : List ℕ) → Some s ≡ step_line line → steps_from k (line ∷ pieces 10 after) ≡ prepend (s ∷ []) (steps_from (suc k) (pieces 10 after))
@@ -69,8 +50,7 @@ module _ (k : ℕ) (late : 3 ≤ k) (line : List ℕ) where
   step_wrong after e = let some = some_piece 10 after in rw some.2 (wrong_then some.0 some.1 (sym e))
 
   pub step_unfinished : 0 < length line → steps_from k (line ∷ []) ≡ Err (Unfinished k)
-  step_unfinished some =
-      cond-false (eqb (length line) 0) _ _ (ne_eqb (length line) 0 (omega arith)) ∙ ap (λ (n : ℕ). Err (Unfinished n)) (omega arith)
+  step_unfinished some = grind (arith, nat_tests)
 
 -- xs are the steps of the lines before line k, with which rest begins
 module _ (text rest : List ℕ) (xs : List Step) (k : ℕ) (late : 3 ≤ k) (inv : prepend xs (steps_from k (pieces 10 rest)) ≡ steps_from 3 (pieces 10 text)) where

@@ -1,7 +1,7 @@
 -- The whole text, from its first line on. Assumes nothing.
+use Rattle.std.proofs.lemmas.Bool.Decides.{nat_tests}
 use Rattle.std.proofs.Common.{◌≡◌, ℕ, suc, ◌+◌, ◌<◌, ◌≤◌, Bool, true, false, cond, ◌&&◌, eqb, ltb, List, [], ◌∷◌, length, is_some, Some, None, Ok, Err, Option, Result, sym, refl, ap, ◌∙◌, arith}
 use Rattle.std.specs.Option.{ok_or}
-use Rattle.std.proofs.lemmas.Bool.{cond-true, cond-false, lt-ltb, le-ltb}
 use Rattle.protocol.specs.declared.types.Step.{Step}
 use Rattle.schedule.specs.declared.types.Fault.{Fault}
 use Rattle.schedule.specs.declared.types.Fault.TheVariants.{TooLong, WrongRule, WrongValues, WrongStep, Unfinished}
@@ -17,49 +17,35 @@ or_none None e f h = (refl, cc)
 or_none (Some x) e f h = absurd (let z : ◌≡◌ {A = ℕ} 0 1 = cc in omega arith)
 
 pub or_some : {A E : Type 0} (o : Option A) (e : E) (x : A) → Ok x ≡ ok_or o e → Some x ≡ o
-or_some None e x h = absurd (let z : ◌≡◌ {A = ℕ} 0 1 = cc in omega arith)
+or_some None e x h = cc
 or_some (Some y) e x h = cc
 
 pub too_long : (text : List ℕ) → 65536 < length text → read_text text ≡ Err TooLong
 unfolding read_text
-too_long text l = cond-true (ltb 65536 (length text)) _ _ (lt-ltb 65536 (length text) l)
+too_long text l = grind (arith, nat_tests)
 
 abbrev pub by_pieces : List (List ℕ) → Result Plan Fault
 by_pieces ps = read_lines (all_but_last ps) (last_of ps)
 
 pub by_pieces_is : (text : List ℕ) → length text ≤ 65536 → read_text text ≡ by_pieces (pieces 10 text)
 unfolding read_text
-by_pieces_is text l = cond-false (ltb 65536 (length text)) _ _ (le-ltb 65536 (length text) l)
+by_pieces_is text l = grind (arith, nat_tests)
 
 no_first : (t : List ℕ) → by_pieces (t ∷ []) ≡ Err (Unfinished 1)
 unfolding read_lines
-no_first t = go (eqb (length t) 0) _
-  where
-    go : (b : Bool) (r : Result Plan Fault) → cond (b && false) r (Err (Unfinished 1)) ≡ Err (Unfinished 1)
-    go true r = refl
-    go false r = refl
+no_first t = grind arith
 
 wrong_first : (one p : List ℕ) (ps : List (List ℕ)) → None ≡ rule_line one → by_pieces (one ∷ p ∷ ps) ≡ Err WrongRule
 unfolding read_lines
-wrong_first one p ps e = go (rule_line one) _ _ e
-  where
-    go : (o : Option RuleName) (w : Option Fault) (r : Result Plan Fault) → None ≡ o → unless (cond (is_some o) w (Some WrongRule)) r ≡ Err WrongRule
-    go o w r same = rw (← same)
+wrong_first one p ps e = grind (arith, e)
 
 no_second : (rule : RuleName) (one t : List ℕ) → Some rule ≡ rule_line one → by_pieces (one ∷ t ∷ []) ≡ Err (Unfinished 2)
 unfolding read_lines
-no_second rule one t e = go (rule_line one) (eqb (length t) 0) _ e
-  where
-    go : (o : Option RuleName) (b : Bool) (r : Result Plan Fault) → Some rule ≡ o → unless (cond (is_some o) None (Some WrongRule)) (cond (b && false) r (Err (Unfinished 2))) ≡ Err (Unfinished 2)
-    go o true r same = rw (← same)
-    go o false r same = rw (← same)
+no_second rule one t e = grind (arith, e)
 
 wrong_second : (rule : RuleName) (one two p : List ℕ) (ps : List (List ℕ)) → Some rule ≡ rule_line one → None ≡ values_line two → by_pieces (one ∷ two ∷ p ∷ ps) ≡ Err WrongValues
 unfolding read_lines
-wrong_second rule one two p ps e f = go (rule_line one) (values_line two) _ _ e f
-  where
-    go : (o : Option RuleName) (v : Option (List ℕ)) (w : Option Fault) (r : Result Plan Fault) → Some rule ≡ o → None ≡ v → unless (cond (is_some o) (cond (is_some v) w (Some WrongValues)) (Some WrongRule)) r ≡ Err WrongValues
-    go o v w r a b = rw (← a, ← b)
+wrong_second rule one two p ps e f = grind (arith, e, f)
 
 -- the schedule of a rule, values and steps that were read
 abbrev pub assemble : RuleName → List ℕ → Result (List Step) Fault → Result Plan Fault
@@ -70,10 +56,8 @@ module _ (rule : RuleName) (values : List ℕ) where
   one_line : (o : Option Step) (w : Option Fault) (t : Bool) (m : ℕ) (ss : List Step) → unless (cond (is_some o) w (Some (WrongStep 3))) (cond (t && ltb 2 (suc (suc (suc m)))) (Ok (record { rule = rule; values = values; steps = and_step o ss })) (Err (Unfinished (suc (suc (suc m)) + 1)))) ≡ assemble rule values (at_least_one (unless (cond (is_some o) w (Some (WrongStep 3))) (cond t (Ok (and_step o ss)) (Err (Unfinished (suc m + 3))))))
   one_line None w t m ss = refl
   one_line (Some s) (Some f) t m ss = refl
-  one_line (Some s) None true m ss = cond-true (ltb 2 (suc (suc (suc m)))) _ _ (lt-ltb 2 (suc (suc (suc m))) (omega arith))
-  one_line (Some s) None false m ss =
-      let same : suc (suc (suc m)) + 1 ≡ suc m + 3 = omega arith in
-      ap (λ (n : ℕ). Err (Unfinished n)) same
+  one_line (Some s) None true m ss = grind (arith, nat_tests)
+  one_line (Some s) None false m ss = grind (arith, nat_tests)
 
   lines : (ls : List (List ℕ)) (t : Bool) → unless (first_wrong 3 ls) (cond (t && ltb 2 (suc (suc (length ls)))) (Ok (record { rule = rule; values = values; steps = steps_in ls })) (Err (Unfinished (suc (suc (length ls)) + 1)))) ≡ assemble rule values (at_least_one (unless (first_wrong 3 ls) (cond t (Ok (steps_in ls)) (Err (Unfinished (length ls + 3))))))
   lines [] true = refl

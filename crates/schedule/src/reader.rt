@@ -132,6 +132,7 @@ fn read_steps(heap: Global, text: &[u8]) -> Result<Vec<Step>, ReadError>
 }
 
 // The schedule of a text, or its fault: too long, or else the first line that is wrong, unfinished or lacking.
+#[tactic(auto, using(crate::proofs::Judged::reading_laws))]
 pub fn read_schedule(heap: Global, text: &[u8]) -> Result<Schedule, ReadError>
     ensures reads { Reads text.now result }
     ensures laws { ReadingLaws }
