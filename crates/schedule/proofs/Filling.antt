@@ -1,7 +1,10 @@
 -- What a line holds, and the lengths of short texts. Assumes nothing.
-use Rattle.std.proofs.Common.{◌≡◌, ℕ, ◌-◌, ◌^◌, ◌<◌, ◌≤◌, ◌++◌, List, length, drop, replicate, decimal, sym, ap, ◌∙◌, arith}
+use Rattle.std.proofs.Common.{◌≡◌, ℕ, ◌+◌, ◌-◌, ◌^◌, ◌<◌, ◌≤◌, ◌++◌, List, length, drop, replicate, decimal, sym, ap, ◌∙◌, arith}
 use Rattle.std.proofs.lemmas.Fmt.{length-decimal-le}
-use Rattle.std.proofs.lemmas.List.{length-take-le, take-append-drop}
+use Rattle.std.proofs.lemmas.Grind.{common_steps}
+use Rattle.std.proofs.lemmas.List.{drop-replicate, length-take-le, take-append-drop}
+use Rattle.std.proofs.lemmas.Slice.{drop-put_mid}
+use borrow.Rule.Slice.PartMut.{put_mid}
 use Rattle.protocol.specs.declared.types.Stand.{Stand}
 use Rattle.protocol.specs.declared.types.Stand.TheVariants.{Fresh, Listening, Down}
 use Rattle.schedule.specs.declared.line.Line.{Line}
@@ -16,6 +19,10 @@ holds line text e =
       cells = sym (take-append-drop line.filled line.cells) ∙ ap (λ l. l ++ drop line.filled line.cells) e ∙ ap (λ l. text ++ l) line.blank ∙ ap (λ n. text ++ replicate (64 - n) 32) count;
       length_is = count;
     }
+
+-- text that is written over the first blanks leaves the others
+pub blanks_left : (cells text : List ℕ) (from upto : ℕ) → length cells ≡ 64 → upto ≡ from + length text → upto ≤ 64 → drop from cells ≡ replicate (64 - from) 32 → drop upto (put_mid from (upto - from) cells text) ≡ replicate (64 - upto) 32
+blanks_left cells text from upto whole is within blank = grind (arith, common_steps, drop-put_mid from (upto - from) cells text, drop-replicate)
 
 pub decimal_20 : (n : ℕ) → n < 2 ^ 64 → length (decimal n) ≤ 20
 decimal_20 n fits = length-decimal-le 20 n (omega arith) (omega arith) fits
