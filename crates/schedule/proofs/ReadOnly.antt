@@ -23,7 +23,7 @@ use Rattle.schedule.proofs.Steps.{some_piece, right_later}
 
 -- nothing is both
 pub ok_err : {A E : Type 0} {x : A} {e : E} → Err e ≡ Ok x → ⊥
-ok_err h = let z : ◌≡◌ {A = ℕ} 0 1 = cc in omega arith
+ok_err h = grind arith
 
 pub some_is : {A : Type 0} (o : Option A) → is_some o ≡ true → (x : A) × (o ≡ Some x)
 some_is None h = grind arith

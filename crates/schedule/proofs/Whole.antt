@@ -14,7 +14,7 @@ use Rattle.schedule.proofs.Steps.{some_piece}
 -- what `ok_or` answered
 pub or_none : {A E : Type 0} (o : Option A) (e f : E) → Err f ≡ ok_or o e → (o ≡ None) × (e ≡ f)
 or_none None e f h = (refl, cc)
-or_none (Some x) e f h = absurd (let z : ◌≡◌ {A = ℕ} 0 1 = cc in omega arith)
+or_none (Some x) e f h = grind arith
 
 pub or_some : {A E : Type 0} (o : Option A) (e : E) (x : A) → Ok x ≡ ok_or o e → Some x ≡ o
 or_some None e x h = cc
