@@ -1,6 +1,6 @@
 // How well a station was reached, counted from the book.
 ghost use Rattle.std.specs.Prelude.{◌≡◌, ◌*◌, ◌<◌, ◌≤◌, length};
-ghost use Rattle.schedule.specs.Reception.{size, turns_of, heard_of, reception_of};
+ghost use Rattle.schedule.specs.Reception.{size, turns_of, heard_of, rounded, reception_of};
 
 use frames::book::read_entry;
 
@@ -38,6 +38,14 @@ fn count_turns(station: usize, book: &[u64]) -> (usize, usize)
     (turns, letters)
 }
 
+// A quotient as the whole number that is printed for it.
+fn quotient(part: usize, whole: usize) -> usize
+    requires { 0 < whole }
+    ensures { result ≡ rounded part whole }
+{
+    part / whole
+}
+
 // What part of the letters due in its turns the station heard, in hundredths; 0 without turns.
 pub(crate) fn reception(n: usize, station: usize, book: &[u64]) -> usize
     requires { (0 < n) × ((n ≤ 16) × (length book.now ≤ 65536)) }
@@ -48,5 +56,5 @@ pub(crate) fn reception(n: usize, station: usize, book: &[u64]) -> usize
     if turns == 0 {
         return 0;
     }
-    100 * heard / (n * turns)
+    quotient(100 * heard, n * turns)
 }
