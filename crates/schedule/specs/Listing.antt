@@ -10,6 +10,7 @@ use Rattle.schedule.specs.Faults.{fault_number, fault_line}
 use Rattle.schedule.specs.declared.line.Line.{Line}
 
 -- ---- a line of 64 cells
+-- its text, without the blanks after it
 abbrev pub written : Line → List ℕ
 written line = take line.filled line.cells
 
