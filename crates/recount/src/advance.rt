@@ -8,7 +8,7 @@ use std::array;
 
 // A round of n stations: whom each of them hears in it, and all states before it.
 #[derive(Drop)]
-pub struct Round<'a, R: Rule> {
+pub struct LockstepRound<'a, R: Rule> {
     pub rule: &'a R,
     pub n: usize,
     pub round: u16,
@@ -18,7 +18,7 @@ pub struct Round<'a, R: Rule> {
     ghost there: { n ≤ length states.now },
 }
 
-impl<'a, R: Rule> Round<'a, R> {
+impl<'a, R: Rule> LockstepRound<'a, R> {
     // The letter that the receiver hears from a sender, or none.
     fn letter(&self, sender: usize, receiver: usize) -> Option<R::Letter>
         requires { receiver < self.now.n }

@@ -2,7 +2,7 @@
 ghost use Rattle.std.specs.Prelude.{◌≡◌, true, is_ok};
 ghost use Rattle.recount.specs.Recount.{round_call, Advances};
 
-use crate::advance::Round;
+use crate::advance::LockstepRound;
 use crate::check::check;
 use protocol::refusal::Refusal;
 use rules::{LAST_ROUND, Rule};
@@ -24,7 +24,7 @@ pub fn lockstep_round<R: Rule>(
 {
     let shortest = states.len().min(next.len());
     check(rule, n, shortest, round >= LAST_ROUND)?;
-    let this_round = Round {
+    let this_round = LockstepRound {
         rule,
         n,
         round,

@@ -2,7 +2,7 @@
 ghost use Rattle.std.specs.Prelude.{◌≡◌, ◌≤◌, ◌++◌, length, take, drop};
 ghost use Rattle.recount.specs.Recount.{recounted};
 
-use crate::advance::Round;
+use crate::advance::LockstepRound;
 use frames::index::Index;
 use rules::{Rule, first_states};
 
@@ -23,7 +23,7 @@ pub fn run_rounds<R: Rule>(
     first_states(rule, values, states);
     for k in 0..round {
         let heard = index.heard_in_round(k);
-        let this_round = Round {
+        let this_round = LockstepRound {
             rule,
             n,
             round: k,

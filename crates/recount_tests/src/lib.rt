@@ -103,7 +103,7 @@ mod tests {
         (answer, same)
     }
 
-    // The same with as many cells in each buffer as there are values.
+    // The same with twenty cells in each buffer.
     fn refused_all(values: &[u16], round: u16) -> (Result<u16, Refusal>, bool) {
         let mut states = [BLANK; 20];
         let mut scratch = [BLANK; 20];

@@ -48,10 +48,6 @@ module _ {A : Type 0} where
   pub written_more : (i : ℕ) (f : ℕ → A) (xs ys : List A) (v : A) → ys ≡ written i f xs → i < length xs → v ≡ f i → set ys i v ≡ written (i + 1) f xs
   written_more i f xs ys v e h here = ap (λ zs. set zs i v) e ∙ rw add-one (written_suc i f xs v h here)
 
-  -- a loop's end
-  pub written_all : (i n : ℕ) (f : ℕ → A) (xs ys : List A) → ys ≡ written i f xs → i ≡ n → ys ≡ written n f xs
-  written_all i n f xs ys e last = e ∙ ap (λ j. written j f xs) last
-
   -- the cells that were written
   pub take_written : (n : ℕ) (f : ℕ → A) (xs : List A) → take n (written n f xs) ≡ tabulate n f
   take_written n f xs = take_at (tabulate n f) (drop n xs) n (length_tabulate n f)

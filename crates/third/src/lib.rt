@@ -54,18 +54,18 @@ fn is_quorum(count: usize, n: usize) -> bool
 }
 
 // A mailbox, and by sender how often the value of its letter occurs; 0 for a sender without a letter. Its functions loop
-// over the letters with the sender's index, a form that the product asks for.
+// over the letters with the sender's index, since counts lie by sender: a chain would carry it along as a pair.
 #[derive(Drop)]
-struct Tally<'a> {
+struct Counts<'a> {
     mailbox: &'a [Option<Letter>],
     counts: [usize; 16],
     ghost few: { length mailbox.now ≤ 16 },
     ghost counted: { (q : ℕ) → slice_index counts q ≡ times mailbox.now (slice_index_or mailbox.now q None) },
 }
 
-impl<'a> Tally<'a> {
+impl<'a> Counts<'a> {
     // Counts a mailbox.
-    fn of(mailbox: &'a [Option<Letter>]) -> Tally<'a>
+    fn of(mailbox: &'a [Option<Letter>]) -> Counts<'a>
         requires { length mailbox.now ≤ 16 }
         ensures { result.mailbox.now ≡ mailbox.now }
     {
@@ -75,7 +75,7 @@ impl<'a> Tally<'a> {
                 counts[sender] = count_of(l.value, mailbox);
             }
         }
-        Tally { mailbox, counts }
+        Counts { mailbox, counts }
     }
 
     // The value that occurs most often, the smallest of these in a tie; `own` if there is no letter.
@@ -168,7 +168,7 @@ impl Rule for Third {
         if is_outside(Self::MAX_STATIONS, n, station, round) || mailbox.len() != n {
             return *state;
         }
-        let tally = Tally::of(mailbox);
+        let tally = Counts::of(mailbox);
         let value = if is_quorum(count_letters(mailbox), n) {
             tally.commonest(state.value)
         } else {

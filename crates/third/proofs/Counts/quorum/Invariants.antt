@@ -1,6 +1,6 @@
 use Rattle.std.proofs.Common.{◌≡◌, drop}
 use Rattle.third.specs.Third.{quorum_from, quorum_value}
-use Rattle.third.proofs.Tally.quorum.Given as goal
+use Rattle.third.proofs.Counts.quorum.Given as goal
 
 -- no sender so far has a quorum's value
 abbrev pub invariant-loop-sender : goal.invariant-loop-sender

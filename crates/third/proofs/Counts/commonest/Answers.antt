@@ -1,8 +1,8 @@
 use Rattle.std.proofs.Common.{None, fold, arith}
 use Rattle.std.proofs.lemmas.List.{at_drop_more}
 use Rattle.third.specs.Third.{better}
-use Rattle.third.proofs.Tally.commonest.Goals as goal
-use Rattle.third.proofs.Tally.commonest.Goals.{in-Some+then-goes_before, in-Some+else-goes_before, in_default}
+use Rattle.third.proofs.Counts.commonest.Goals as goal
+use Rattle.third.proofs.Counts.commonest.Goals.{in-Some+then-goes_before, in-Some+else-goes_before, in_default}
 
 pub loop-sender-preserved : goal.loop-sender-preserved
 loop-sender-preserved c =

@@ -1,7 +1,7 @@
 use Rattle.std.proofs.Common.{take}
 use Rattle.rules.proofs.Tables.{written_more}
 use Rattle.recount.specs.Recount.{state_after}
-use Rattle.recount.proofs.advance.Round.advance.Goals as goal
+use Rattle.recount.proofs.advance.LockstepRound.advance.Goals as goal
 
 pub loop-station-preserved : goal.loop-station-preserved
 loop-station-preserved g c =

@@ -2,7 +2,7 @@ use Rattle.std.proofs.Common.{rules, cond, ltb, None, take, ap, ◌∙◌}
 use Rattle.std.proofs.lemmas.Bool.{lt-ltb, cond-true}
 use Rattle.frames.proofs.Made.{made_table, take_table}
 use Rattle.recount.specs.Recount.{letter_in}
-use Rattle.recount.proofs.advance.Round.mailbox.Goals as goal
+use Rattle.recount.proofs.advance.LockstepRound.mailbox.Goals as goal
 
 pub returns-clause-places : goal.returns-clause-places
 returns-clause-places g c =

@@ -2,7 +2,7 @@ use Rattle.std.proofs.Common.{None, sym, ap, ◌∙◌, inl, inr, arith}
 use Rattle.std.proofs.lemmas.List.{get_or_past}
 use Rattle.std.proofs.lemmas.Bool.{cases_lt}
 use Rattle.third.specs.Third.{times}
-use Rattle.third.proofs.Tally.of.Goals as goal
+use Rattle.third.proofs.Counts.of.Goals as goal
 
 -- past the last sender there is no letter, and the count is 0
 pub invariant_of-result-clause-counted : goal.invariant_of-result-clause-counted

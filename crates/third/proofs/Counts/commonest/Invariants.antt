@@ -1,6 +1,6 @@
 use Rattle.std.proofs.Common.{◌≡◌, drop, fold}
 use Rattle.third.specs.Third.{occurs, better, most_frequent}
-use Rattle.third.proofs.Tally.commonest.Given as goal
+use Rattle.third.proofs.Counts.commonest.Given as goal
 
 -- what is left to look at makes of the best so far the most frequent
 abbrev pub invariant-loop-sender : goal.invariant-loop-sender

@@ -1,7 +1,7 @@
 use Rattle.std.proofs.Common.{◌≡◌}
 use Rattle.rules.specs.Lists.{written}
 use Rattle.recount.specs.Recount.{state_after}
-use Rattle.recount.proofs.advance.Round.advance.Given as goal
+use Rattle.recount.proofs.advance.LockstepRound.advance.Given as goal
 
 -- the states of the stations so far
 abbrev pub invariant-loop-station : goal.invariant-loop-station

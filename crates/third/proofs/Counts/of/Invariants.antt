@@ -1,6 +1,6 @@
 use Rattle.std.proofs.Common.{◌≡◌, ℕ, ◌<◌, ◌≤◌, length, get_or, None}
 use Rattle.third.specs.Third.{times}
-use Rattle.third.proofs.Tally.of.Given as goal
+use Rattle.third.proofs.Counts.of.Given as goal
 
 -- the senders so far are counted, and nothing is written of the others
 abbrev pub invariant-loop-sender : goal.invariant-loop-sender
