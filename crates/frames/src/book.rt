@@ -52,7 +52,7 @@ pub(crate) fn senders_in(word: u64) -> [bool; 16]
 }
 
 // The station, the round and the heard set of a word. Every word is an entry: its low 32 bits are ignored, and without
-// them the entry packs again into the same word. A tuple, as a frame is read, is the form that the product asks for.
+// them the entry packs again into the same word. A tuple, as a frame is read.
 pub fn read_entry(word: u64) -> (usize, u16, [bool; 16])
     ensures entry { result ≡ read_entry word }
     ensures packs_again { EntryAgain word result }

@@ -1,5 +1,5 @@
 // A frame: a letter with its sender, its receiver and its round, as one word.
-ghost use Rattle.std.specs.Prelude.{◌≡◌, is_some};
+ghost use Rattle.std.specs.Prelude.{◌≡◌, ◌<◌, is_some, IfSome};
 ghost use Rattle.frames.specs.Frame.{packed_frame, read_frame, readable, ReadsBack, PacksAgain};
 
 use crate::{ROUNDS, STATIONS};
@@ -28,11 +28,12 @@ pub fn pack_frame<R: Rule>(
 
 // The sender, the receiver, the round and the letter of a word among n stations, or none if it is not readable: it is
 // readable exactly when its sender and its receiver are below n and the rest unpacks. What is read packs again into the
-// same word. A tuple in an `Option` is the form that the product asks for.
+// same word. A tuple in an `Option`, so that what is read is told together or not at all.
 #[tactic(auto, unfolding(crate::specs::Frame::read_frame))]
 pub fn read_frame<R: Rule>(rule: &R, n: usize, word: u64) -> Option<(usize, usize, u16, R::Letter)>
     ensures frame { result ≡ read_frame (R.Rule.behaviour rule.now) n word }
     ensures readable { is_some result ≡ readable (R.Rule.behaviour rule.now) n word }
+    ensures below { IfSome result (λ f. (f.0 < n) × (f.1 < n)) }
     ensures packs_again { PacksAgain (R.Rule.behaviour rule.now) n word result }
 {
     let sender = (word >> 60) as usize;

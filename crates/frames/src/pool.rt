@@ -1,13 +1,13 @@
 // The pool: words of which the first are frames. The shed keeps their count and the words are lent for each call, so a
 // struct of both would be made and taken apart in each.
-ghost use Rattle.std.specs.Prelude.{◌≡◌, cond, length, replicate};
+ghost use Rattle.std.specs.Prelude.{◌≡◌, ◌<◌, cond, length, replicate, IfOk};
 ghost use Rattle.frames.specs.Pool.{has_place, found, taken_out, added, repeated};
 
 use crate::frame::read_frame;
 use rules::Rule;
 
 // Why the pool refuses. Whatever it refuses leaves its words as they were.
-#[derive(Debug, Clone, Copy, PartialEq, Eq)]
+#[derive(Clone, Copy, Debug, PartialEq, Eq)]
 pub enum PoolRefusal {
     // The place is not one of the frames'.
     NoSuchPlace,
@@ -36,7 +36,8 @@ pub fn frame_at<R: Rule>(
     count: usize,
     place: usize,
 ) -> Result<(usize, usize, u16, R::Letter), PoolRefusal>
-    ensures { result ≡ found (R.Rule.behaviour rule.now) n pool.now count place }
+    ensures frame { result ≡ found (R.Rule.behaviour rule.now) n pool.now count place }
+    ensures below { IfOk result (λ f. (f.0 < n) × (f.1 < n)) }
 {
     check_place(pool, count, place)?;
     read_frame(rule, n, pool[place]).ok_or(PoolRefusal::Unreadable)
