@@ -5,7 +5,7 @@ ghost use Rattle.protocol.specs.Refusals.{refusal_number, of_pool};
 use frames::pool::PoolRefusal;
 
 // In checking order. Whatever is refused leaves the shed and its buffers as they were.
-#[derive(Debug, Clone, Copy, PartialEq, Eq)]
+#[derive(Clone, Copy, Debug, PartialEq, Eq)]
 pub enum Refusal {
     // The shed is not open.
     Shut = 1,

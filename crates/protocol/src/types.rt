@@ -1,7 +1,7 @@
 // What the shed keeps of a station, what it is asked to do, and what it answers.
 
 // Where a station is in its round: it has not sent yet, it has sent and takes letters, or it has crashed for good.
-#[derive(Debug, Clone, Copy, PartialEq, Eq)]
+#[derive(Clone, Copy, Debug, PartialEq, Eq)]
 pub enum Stand {
     Fresh,
     Listening,
@@ -9,14 +9,14 @@ pub enum Stand {
 }
 
 // A letter that came before its round: who sent it, and the round that it is for.
-#[derive(Debug, Clone, Copy, PartialEq, Eq)]
+#[derive(Clone, Copy, Debug, PartialEq, Eq)]
 pub struct Held {
     pub sender: usize,
     pub round: u16,
 }
 
 // A station: its round, its stand, the senders that it heard in that round, and the letter that it holds or none.
-#[derive(Debug, Clone, Copy, PartialEq, Eq)]
+#[derive(Clone, Copy, Debug, PartialEq, Eq)]
 pub struct Record {
     pub round: u16,
     pub stand: Stand,
@@ -26,7 +26,7 @@ pub struct Record {
 
 // What becomes of a frame that is delivered: it is of an older round; it is of the station's round and its sender was
 // heard already; it is of the station's round and is taken in; or it is of a newer round and is held.
-#[derive(Debug, Clone, Copy, PartialEq, Eq)]
+#[derive(Clone, Copy, Debug, PartialEq, Eq)]
 pub enum Fate {
     Late,
     Again,
@@ -35,7 +35,7 @@ pub enum Fate {
 }
 
 // A planner's call, with the station or the place in the pool that it names.
-#[derive(Debug, Clone, Copy, PartialEq, Eq)]
+#[derive(Clone, Copy, Debug, PartialEq, Eq)]
 pub enum Step {
     Send(usize),
     Deliver(usize),
@@ -46,7 +46,7 @@ pub enum Step {
 }
 
 // What is seen of a station: its stand, its round, and the hull that it shows or none.
-#[derive(Debug, Clone, Copy, PartialEq, Eq)]
+#[derive(Clone, Copy, Debug, PartialEq, Eq)]
 pub struct Sight {
     pub stand: Stand,
     pub round: u16,
