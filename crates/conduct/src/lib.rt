@@ -2,38 +2,47 @@
 #![tactic(auto)]
 
 ghost use Rattle.std.specs.Prelude.{◌≡◌};
-ghost use Rattle.protocol.specs.World.{shut};
+ghost use Rattle.shed_core.specs.Of.{shut_with, StillLent};
 ghost use Rattle.conduct.specs.declared.Halt.TheVariants.{Refused, NoMemory};
 ghost use Rattle.conduct.specs.Conduct.{Conducted};
 
 use protocol::refusal::Refusal;
 use protocol::types::Step;
 use rules::Rule;
+use shed_core::buffers::Buffers;
 use shed_core::shed::Shed;
-use std::alloc::{AllocError, Global};
+use std::alloc::{AllocError, AllocFailed, Global};
 use steps::take_steps;
 
 pub mod steps;
 
-// Why nothing was conducted: the shed did not open, or there was no memory for the steps' refusals.
-#[derive(Clone, Copy)]
-pub enum Halt {
-    Refused(Refusal),
+// Why a call came to nothing: it was refused, for a reason of its own kind, or there was no memory.
+#[derive(Clone, Copy, Debug, PartialEq, Eq)]
+pub enum Halt<E> {
+    Refused(E),
     NoMemory,
 }
 
-impl From<Refusal> for Halt {
+impl From<Refusal> for Halt<Refusal> {
     ghost from_gives = { λ f r. r ≡ Refused f };
 
-    fn from(refusal: Refusal) -> Halt {
+    fn from(refusal: Refusal) -> Halt<Refusal> {
         Halt::Refused(refusal)
     }
 }
 
-impl From<AllocError> for Halt {
+impl<E> From<AllocError> for Halt<E> {
     ghost from_gives = { λ _ r. r ≡ NoMemory };
 
-    fn from(_error: AllocError) -> Halt {
+    fn from(_error: AllocError) -> Halt<E> {
+        Halt::NoMemory
+    }
+}
+
+impl<E, T: Drop> From<AllocFailed<T>> for Halt<E> {
+    ghost from_gives = { λ _ r. r ≡ NoMemory };
+
+    fn from(_error: AllocFailed<T>) -> Halt<E> {
         Halt::NoMemory
     }
 }
@@ -43,22 +52,17 @@ impl From<AllocError> for Halt {
 pub fn conduct<R: Rule>(
     heap: Global,
     rule: &R,
-    states: &mut [R::State],
-    letters: &mut [R::Letter],
-    pool: &mut [u64],
-    book: &mut [u64],
+    buffers: &mut Buffers<'_, R::State, R::Letter>,
     values: &[u16],
     steps: &[Step],
-) -> Result<(Shed, Vec<Option<Refusal>>), Halt>
-    ensures { Conducted (R.Rule.behaviour rule.now) values.now steps.now
-        (shut states.old letters.old pool.old book.old)
-        result states.new letters.new pool.new book.new }
+) -> Result<(Shed, Vec<Option<Refusal>>), Halt<Refusal>>
+    ensures conducted { Conducted (R.Rule.behaviour rule.now) values.now steps.now (shut_with buffers.old) result buffers.new }
+    ensures lent { StillLent buffers.old buffers.new }
 {
     let none: Option<Refusal> = None;
     let mut refusals = vec![in heap; none; steps.len()]?;
     let mut shed = Shed::new();
-    shed.open(rule, states, letters, pool, book, values)?;
-    let told = refusals.as_mut_slice();
-    take_steps(&mut shed, rule, states, letters, pool, book, steps, told);
+    shed.open(rule, buffers, values)?;
+    take_steps(&mut shed, rule, buffers, steps, refusals.as_mut_slice());
     Ok((shed, refusals))
 }

@@ -1,36 +1,35 @@
 // Steps, one by one and as a list.
 ghost use Rattle.std.specs.Prelude.{◌≡◌};
 ghost use Rattle.rules.specs.Lists.{put};
-ghost use Rattle.shed_core.specs.Of.{world, ComesTo};
+ghost use Rattle.shed_core.specs.Of.{world_of, ComesTo, StillLent};
 ghost use Rattle.protocol.specs.Calls.{step, after, refusals};
 
 use protocol::refusal::Refusal;
 use protocol::types::Step;
 use rules::Rule;
+use shed_core::buffers::Buffers;
 use shed_core::shed::Shed;
 
-// Makes the call that a step names; answers its refusal or none.
+// Makes the call that a step names; answers its refusal or none, as a list of outcomes keeps it. Steps are read from a
+// text and compared, so they are an enum and a match, and no closures.
+#[tactic(auto, using(crate::proofs::StepByStep::stepped), unfolding(protocol::specs::Calls::step))]
 pub fn take_step<R: Rule>(
     shed: &mut Shed,
     rule: &R,
-    states: &mut [R::State],
-    letters: &mut [R::Letter],
-    pool: &mut [u64],
-    book: &mut [u64],
+    buffers: &mut Buffers<'_, R::State, R::Letter>,
     call: Step,
 ) -> Option<Refusal>
-    ensures { ComesTo result
-        (world shed.new states.new letters.new pool.new book.new)
-        (step (R.Rule.behaviour rule.now)
-        (world shed.old states.old letters.old pool.old book.old) call) }
+    ensures call { ComesTo result (world_of shed.new buffers.new)
+        (step (R.Rule.behaviour rule.now) (world_of shed.old buffers.old) call) }
+    ensures lent { StillLent buffers.old buffers.new }
 {
     match call {
-        Step::Send(p) => shed.send(rule, states, letters, pool, book, p).err(),
-        Step::Deliver(k) => shed.deliver(rule, states, letters, pool, book, k).err(),
-        Step::Drop(k) => shed.drop(rule, states, letters, pool, book, k).err(),
-        Step::Repeat(k) => shed.repeat(rule, states, letters, pool, book, k).err(),
-        Step::Turn(p) => shed.turn(rule, states, letters, pool, book, p).err(),
-        Step::Crash(p) => shed.crash(rule, states, letters, pool, book, p).err(),
+        Step::Send(p) => shed.send(rule, buffers, p).err(),
+        Step::Deliver(k) => shed.deliver(rule, buffers, k).err(),
+        Step::Drop(k) => shed.drop(rule, buffers, k).err(),
+        Step::Repeat(k) => shed.repeat(rule, buffers, k).err(),
+        Step::Turn(p) => shed.turn(rule, buffers, p).err(),
+        Step::Crash(p) => shed.crash(rule, buffers, p).err(),
     }
 }
 
@@ -38,22 +37,19 @@ pub fn take_step<R: Rule>(
 pub fn take_steps<R: Rule>(
     shed: &mut Shed,
     rule: &R,
-    states: &mut [R::State],
-    letters: &mut [R::Letter],
-    pool: &mut [u64],
-    book: &mut [u64],
+    buffers: &mut Buffers<'_, R::State, R::Letter>,
     calls: &[Step],
     outcomes: &mut [Option<Refusal>],
 )
-    ensures leaves { (world shed.new states.new letters.new pool.new book.new)
-        ≡ after (R.Rule.behaviour rule.now)
-        (world shed.old states.old letters.old pool.old book.old) calls.now }
+    ensures leaves { world_of shed.new buffers.new
+        ≡ after (R.Rule.behaviour rule.now) (world_of shed.old buffers.old) calls.now }
     ensures tells { outcomes.new ≡ put outcomes.old 0
-        (refusals (R.Rule.behaviour rule.now)
-        (world shed.old states.old letters.old pool.old book.old) calls.now) }
+        (refusals (R.Rule.behaviour rule.now) (world_of shed.old buffers.old) calls.now) }
+    ensures lent { StillLent buffers.old buffers.new }
 {
-    for i in 0..calls.len() {
-        let outcome = take_step(shed, rule, states, letters, pool, book, calls[i]);
+    // Not zipped: the calls go on where the list of outcomes ends.
+    for (i, call) in calls.iter().enumerate() {
+        let outcome = take_step(shed, rule, buffers, *call);
         if i < outcomes.len() {
             outcomes[i] = outcome;
         }

@@ -8,6 +8,7 @@ use Rattle.last.specs.Last.{last}
 use Rattle.rules.proofs.Options.{none_some}
 use Rattle.protocol.specs.declared.types.Step.{Step}
 use Rattle.protocol.specs.Calls.{open_refusal}
+use Rattle.protocol.specs.declared.refusal.Refusal.{Refusal}
 use Rattle.conduct.specs.declared.Halt.{Halt}
 use Rattle.conduct.specs.declared.Halt.TheVariants.{Refused, NoMemory}
 use Rattle.schedule.specs.declared.types.Fault.{Fault}
@@ -32,13 +33,13 @@ module _ {S L : Type 0} (R : Behaviour S L) where
       let cells : length values * (length values + 1) ≤ 16 * 17 = mul-le-mul few more in
       opens R (new_shed s l) values refl some (rw most few) (omega arith) (omega arith) (omega arith) (omega arith) (omega arith)
 
-  fine : (s : S) (l : L) (values : List ℕ) (steps : List Step) → R.most ≡ 16 → 0 < length values → length values ≤ 16 → (r : Result (Vec ℕ Global) Halt) → Runs R (new_shed s l) values steps r → Unrefused r
+  fine : (s : S) (l : L) (values : List ℕ) (steps : List Step) → R.most ≡ 16 → 0 < length values → length values ≤ 16 → (r : Result (Vec ℕ Global) (Halt Refusal)) → Runs R (new_shed s l) values steps r → Unrefused r
   fine s l values steps most some few (Ok v) h = tt
   fine s l values steps most some few (Err (Refused f)) h = none_some (sym (program_opens s l values most some few) ∙ h)
   fine s l values steps most some few (Err NoMemory) h = tt
 
 -- whatever the rule, the opening is not refused
-pub not_refused : (rule : RuleName) (values : List ℕ) (steps : List Step) → 0 < length values → length values ≤ 16 → (r : Result (Vec ℕ Global) Halt) → RunsBy rule values steps r → Unrefused r
+pub not_refused : (rule : RuleName) (values : List ℕ) (steps : List Step) → 0 < length values → length values ≤ 16 → (r : Result (Vec ℕ Global) (Halt Refusal)) → RunsBy rule values steps r → Unrefused r
 not_refused Third values steps = fine third third_state third_letter values steps refl
 not_refused Last values steps = fine last last_state last_letter values steps refl
 
@@ -46,7 +47,7 @@ listed : (rule : RuleName) (p : Plan) (v : Vec ℕ Global) → RunsBy rule p.val
 listed Third p v h = (h.is, h.safe)
 listed Last p v h = (h.is, h.safe)
 
-pub plays : (p : Plan) (r : Result (Vec ℕ Global) Halt) (v : Vec ℕ Global) → RunsBy p.rule p.values p.steps r → r ≡ Ok v → Plays p (vec_items v)
+pub plays : (p : Plan) (r : Result (Vec ℕ Global) (Halt Refusal)) (v : Vec ℕ Global) → RunsBy p.rule p.values p.steps r → r ≡ Ok v → Plays p (vec_items v)
 plays p r v h e = let both = listed p.rule p v (subst (RunsBy p.rule p.values p.steps) e h) in record { is = both.0; safe = both.1 }
 
 module _ (text out : List ℕ) where

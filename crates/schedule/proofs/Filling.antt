@@ -8,10 +8,10 @@ use borrow.Rule.Slice.PartMut.{put_mid}
 use Rattle.protocol.specs.declared.types.Stand.{Stand}
 use Rattle.protocol.specs.declared.types.Stand.TheVariants.{Fresh, Listening, Down}
 use Rattle.schedule.specs.declared.line.Line.{Line}
-use Rattle.schedule.specs.Listing.{Holds, written, stand_text}
+use Rattle.schedule.specs.Listing.{Holds, line_text, stand_text}
 
 -- a line's text, and the blanks that its invariant has after it
-pub holds : (line : Line) (text : List ℕ) → written line ≡ text → Holds line text
+pub holds : (line : Line) (text : List ℕ) → line_text line ≡ text → Holds line text
 holds line text e =
     let count : line.filled ≡ length text = sym (length-take-le line.filled line.cells (omega (arith, line.whole, line.within))) ∙ ap length e in
     record {

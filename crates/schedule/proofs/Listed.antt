@@ -13,9 +13,10 @@ use Rattle.protocol.specs.Calls.{look_refusal, refusals}
 use Rattle.protocol.specs.Tally.{Triple, start, tally}
 use Rattle.protocol.specs.Guarantee.{Guarantee, entry}
 use Rattle.shed_core.specs.declared.shed.Shed.{Shed}
+use Rattle.shed_core.specs.declared.buffers.Buffers.{Buffers}
 use Rattle.conduct.specs.declared.Halt.{Halt}
 use Rattle.conduct.specs.declared.Halt.TheVariants.{Refused, NoMemory}
-use Rattle.shed_core.specs.Of.{world}
+use Rattle.shed_core.specs.Of.{world_of}
 use Rattle.conduct.specs.Conduct.{CarriedOut}
 use Rattle.schedule.specs.declared.printer.RefusedStep.{RefusedStep}
 use Rattle.schedule.specs.Printing.{listing_text}
@@ -44,25 +45,25 @@ module _ {S L : Type 0} (R : Behaviour S L) (new : World S L) (values : List ℕ
         valid = λ x h e. let u = seen_at n f x h e in g.valid x h u.0 u.1;
       }
 
-  module _ (s : Shed) (told : List (Option Refusal)) (states : List S) (letters : List L) (pool book : List ℕ)
-      (ran : CarriedOut R values steps new s told states letters pool book) where
-    looked : (f : Refusal) → (q : ℕ) × (q < length values) × (look_refusal R (world s states letters pool book) q ≡ Some f) → ⊥
+  module _ (s : Shed) (told : List (Option Refusal)) (left : Buffers S L)
+      (ran : CarriedOut R values steps new s told left) where
+    looked : (f : Refusal) → (q : ℕ) × (q < length values) × (look_refusal R (world_of s left) q ≡ Some f) → ⊥
     looked f at =
         let fine : look_refusal R (over R new values steps) at.0 ≡ None = looks R new values steps at.0 ran.opens at.1 in
         none_some (sym fine ∙ ap (λ w. look_refusal R w at.0) (sym ran.leaves) ∙ at.2)
 
     -- a look is refused nothing, so only want of memory stops it
-    pub not_seen : (h : Halt) → Seen R (world s states letters pool book) (length values) (Err h) → Runs R new values steps (Err h)
+    pub not_seen : (h : Halt Refusal) → Seen R (world_of s left) (length values) (Err h) → Runs R new values steps (Err h)
     not_seen (Refused f) at = absurd (looked f at)
     not_seen NoMemory at = tt
 
-    book_is : book ≡ (over R new values steps).book
+    book_is : left.book.now ≡ (over R new values steps).book
     book_is = ap (λ w. w.book) ran.leaves
 
     counted : s.entries ≡ (over R new values steps).entries
     counted = ap (λ w. w.entries) ran.leaves
 
-    pub within : s.entries ≤ length book
+    pub within : s.entries ≤ length left.book.now
     within =
         let g : Guarantee R values (begun R new values steps) steps = ran.guaranteed in
         let ts : List Triple = (tally R values start steps (refusals R (begun R new values steps) steps)).triples in
@@ -72,16 +73,16 @@ module _ {S L : Type 0} (R : Behaviour S L) (new : World S L) (values : List ℕ
     pub few : Interface R → length values ≤ 16
     few face = omega (arith, face.most_few, (accepted R new values ran.opens).few)
 
-    pub book_few : length book ≤ 65536
+    pub book_few : length left.book.now ≤ 65536
     book_few = omega (arith, ap length book_is, book_length R new values steps, (accepted R new values ran.opens).book)
 
-    pub lists : (refused : List RefusedStep) (seen : List Sight) (out : List ℕ) → refused ≡ refused_from 3 told → seen ≡ sights R (world s states letters pool book) (length values) → out ≡ listing_text refused seen (take s.entries book) → Listed R new values steps out
+    pub lists : (refused : List RefusedStep) (seen : List Sight) (out : List ℕ) → refused ≡ refused_from 3 told → seen ≡ sights R (world_of s left) (length values) → out ≡ listing_text refused seen (take s.entries left.book.now) → Listed R new values steps out
     unfolding run_listing
     lists refused seen out er es eo =
         let n : ℕ = length values in
         let is : out ≡ listing_text (refused_from 3 (refusals R (begun R new values steps) steps)) (sights R (over R new values steps) n) (take (over R new values steps).entries (over R new values steps).book) =
-        eo ∙ ap (λ r. listing_text r seen (take s.entries book)) (er ∙ ap (refused_from 3) ran.tells)
-        ∙ ap (λ l. listing_text (refused_from 3 (refusals R (begun R new values steps) steps)) l (take s.entries book)) (es ∙ ap (λ w. sights R w n) ran.leaves)
-        ∙ ap (λ k. listing_text (refused_from 3 (refusals R (begun R new values steps) steps)) (sights R (over R new values steps) n) (take k book)) counted
+        eo ∙ ap (λ r. listing_text r seen (take s.entries left.book.now)) (er ∙ ap (refused_from 3) ran.tells)
+        ∙ ap (λ l. listing_text (refused_from 3 (refusals R (begun R new values steps) steps)) l (take s.entries left.book.now)) (es ∙ ap (λ w. sights R w n) ran.leaves)
+        ∙ ap (λ k. listing_text (refused_from 3 (refusals R (begun R new values steps) steps)) (sights R (over R new values steps) n) (take k left.book.now)) counted
         ∙ ap (λ b. listing_text (refused_from 3 (refusals R (begun R new values steps) steps)) (sights R (over R new values steps) n) (take (over R new values steps).entries b)) book_is in
         record { is = is; safe = one_hull ran.guaranteed _ _ out is }

@@ -5,8 +5,8 @@ use Rattle.std.specs.Option.{ok_or}
 use Rattle.protocol.specs.declared.types.Step.{Step}
 use Rattle.schedule.specs.declared.types.Fault.{Fault}
 use Rattle.schedule.specs.declared.types.Fault.TheVariants.{TooLong, WrongRule, WrongValues, WrongStep, Unfinished}
-use Rattle.schedule.specs.declared.types.ReadError.{ReadError}
-use Rattle.schedule.specs.declared.types.ReadError.TheVariants.{Faulty, NoMemory}
+use Rattle.conduct.specs.declared.Halt.{Halt}
+use Rattle.conduct.specs.declared.Halt.TheVariants.{Refused, NoMemory}
 use Rattle.schedule.specs.declared.types.RuleName.{RuleName}
 use Rattle.schedule.specs.Reading.{pieces, all_but_last, last_of, rule_line, values_line, step_line, Plan, first_wrong, and_step, steps_in, unless, read_lines, read_text, steps_from, at_least_one, ReadsSteps, Reads}
 use Rattle.schedule.proofs.Steps.{some_piece}
@@ -95,6 +95,6 @@ module _ (text : List ℕ) (short : length text ≤ 65536) where
             by_pieces_is text short ∙ ap by_pieces shape ∙ both rule values one two (some_piece 10 after).0 (some_piece 10 after).1 ruled e ∙ ap (λ ps. assemble rule values (at_least_one (steps_from 3 ps))) (sym (some_piece 10 after).2)
 
 -- the fault of the steps is the fault of the text
-pub steps_fail : (text after : List ℕ) (rule : RuleName) (values : List ℕ) → read_text text ≡ assemble rule values (at_least_one (steps_from 3 (pieces 10 after))) → (e : ReadError) → ReadsSteps after (Err e) → Reads text (Err e)
-steps_fail text after rule values is (Faulty f) h = is ∙ ap (assemble rule values) h
+pub steps_fail : (text after : List ℕ) (rule : RuleName) (values : List ℕ) → read_text text ≡ assemble rule values (at_least_one (steps_from 3 (pieces 10 after))) → (e : Halt Fault) → ReadsSteps after (Err e) → Reads text (Err e)
+steps_fail text after rule values is (Refused f) h = is ∙ ap (assemble rule values) h
 steps_fail text after rule values is NoMemory h = tt

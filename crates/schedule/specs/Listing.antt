@@ -11,8 +11,8 @@ use Rattle.schedule.specs.declared.line.Line.{Line}
 
 -- ---- a line of 64 cells
 -- its text, without the blanks after it
-abbrev pub written : Line → List ℕ
-written line = take line.filled line.cells
+abbrev pub line_text : Line → List ℕ
+line_text line = take line.filled line.cells
 
 -- the cells hold the text, and blanks after it
 pub record Holds (line : Line) (text : List ℕ) : Type 0 where

@@ -4,13 +4,13 @@ use Rattle.protocol.specs.declared.types.Sight.{Sight}
 use Rattle.schedule.specs.declared.line.Line.{Line}
 use Rattle.schedule.specs.declared.types.Fault.{Fault}
 use Rattle.schedule.specs.declared.printer.RefusedStep.{RefusedStep}
-use Rattle.schedule.specs.Listing.{written, refusal_text, station_text, book_text, fault_text}
+use Rattle.schedule.specs.Listing.{line_text, refusal_text, station_text, book_text, fault_text}
 use Rattle.schedule.specs.Reception.{reception_of}
 use Rattle.schedule.specs.Writing.{ended}
 
 -- what is printed of a line's cells
 abbrev pub shown : Line → List ℕ
-shown line = ended (written line)
+shown line = ended (line_text line)
 
 abbrev pub refusals_text : List RefusedStep → List ℕ
 refusals_text [] = []

@@ -8,8 +8,8 @@ use Rattle.protocol.specs.declared.types.Step.{Step}
 use Rattle.protocol.specs.declared.types.Step.TheVariants.{Send, Deliver, Drop, Repeat, Turn, Crash}
 use Rattle.schedule.specs.declared.types.Fault.{Fault}
 use Rattle.schedule.specs.declared.types.Fault.TheVariants.{TooLong, WrongRule, WrongValues, WrongStep, Unfinished}
-use Rattle.schedule.specs.declared.types.ReadError.{ReadError}
-use Rattle.schedule.specs.declared.types.ReadError.TheVariants.{Faulty, NoMemory}
+use Rattle.conduct.specs.declared.Halt.{Halt}
+use Rattle.conduct.specs.declared.Halt.TheVariants.{Refused, NoMemory}
 use Rattle.schedule.specs.declared.types.RuleName.{RuleName}
 use Rattle.schedule.specs.declared.types.RuleName.TheVariants.{Third, Last}
 use Rattle.schedule.specs.declared.types.Schedule.{Schedule}
@@ -23,11 +23,6 @@ onto_first b (p ∷ ps) = (b ∷ p) ∷ ps
 unfoldable pub pieces : ℕ → List ℕ → List (List ℕ)
 pieces mark [] = [] ∷ []
 pieces mark (b ∷ bs) = cond (b == mark) ([] ∷ pieces mark bs) (onto_first b (pieces mark bs))
-
--- the pieces of what stands after a mark; none where there is no mark
-abbrev pub pieces_after : ℕ → Option (List ℕ) → List (List ℕ)
-pieces_after mark None = []
-pieces_after mark (Some bs) = pieces mark bs
 
 abbrev pub all_but_last : List (List ℕ) → List (List ℕ)
 all_but_last [] = []
@@ -152,9 +147,9 @@ abbrev pub plan : Schedule → Plan
 plan s = record { rule = s.rule; values = vec_items s.values; steps = vec_items s.steps }
 
 -- at want of memory nothing is said
-abbrev pub Reads : List ℕ → Result Schedule ReadError → Type 0
+abbrev pub Reads : List ℕ → Result Schedule (Halt Fault) → Type 0
 Reads text (Ok s) = read_text text ≡ Ok (plan s)
-Reads text (Err (Faulty f)) = read_text text ≡ Err f
+Reads text (Err (Refused f)) = read_text text ≡ Err f
 Reads text (Err NoMemory) = Unit {0}
 
 -- what is read of the pieces of a text that begins with line k, which is a step
@@ -167,7 +162,7 @@ at_least_one (Err f) = Err f
 at_least_one (Ok []) = Err (Unfinished 3)
 at_least_one (Ok (s ∷ ss)) = Ok (s ∷ ss)
 
-abbrev pub ReadsSteps : List ℕ → Result (Vec Step Global) ReadError → Type 0
+abbrev pub ReadsSteps : List ℕ → Result (Vec Step Global) (Halt Fault) → Type 0
 ReadsSteps text (Ok steps) = at_least_one (steps_from 3 (pieces 10 text)) ≡ Ok (vec_items steps)
-ReadsSteps text (Err (Faulty f)) = at_least_one (steps_from 3 (pieces 10 text)) ≡ Err f
+ReadsSteps text (Err (Refused f)) = at_least_one (steps_from 3 (pieces 10 text)) ≡ Err f
 ReadsSteps text (Err NoMemory) = Unit {0}

@@ -8,6 +8,7 @@ use Rattle.protocol.specs.declared.types.Sight.{Sight}
 use Rattle.protocol.specs.declared.types.Step.{Step}
 use Rattle.protocol.specs.World.{World}
 use Rattle.protocol.specs.Calls.{open_refusal, look_refusal}
+use Rattle.protocol.specs.declared.refusal.Refusal.{Refusal}
 use Rattle.conduct.specs.declared.Halt.{Halt}
 use Rattle.conduct.specs.declared.Halt.TheVariants.{Refused, NoMemory}
 use Rattle.schedule.specs.Program.{sights, run_listing, played, new_shed, third_state, third_letter, last_state, last_letter, ListsOneHull}
@@ -16,7 +17,7 @@ use Rattle.schedule.specs.declared.types.RuleName.TheVariants.{Third, Last}
 use Rattle.schedule.specs.Reading.{Plan}
 
 -- what is seen of the stations below n, or why one of them is not shown
-abbrev pub Seen : {S L : Type 0} → Behaviour S L → World S L → ℕ → Result (Vec Sight Global) Halt → Type 0
+abbrev pub Seen : {S L : Type 0} → Behaviour S L → World S L → ℕ → Result (Vec Sight Global) (Halt Refusal) → Type 0
 Seen R w n (Ok v) = vec_items v ≡ sights R w n
 Seen R w n (Err (Refused f)) = (p : ℕ) × (p < n) × (look_refusal R w p ≡ Some f)
 Seen R w n (Err NoMemory) = Unit {0}
@@ -26,19 +27,19 @@ pub record Listed {S L : Type 0} (R : Behaviour S L) (new : World S L) (values :
   pub is : out ≡ run_listing R new values steps
   pub safe : ListsOneHull values out
 
-abbrev pub Runs : {S L : Type 0} → Behaviour S L → World S L → List ℕ → List Step → Result (Vec ℕ Global) Halt → Type 0
+abbrev pub Runs : {S L : Type 0} → Behaviour S L → World S L → List ℕ → List Step → Result (Vec ℕ Global) (Halt Refusal) → Type 0
 Runs R new values steps (Ok v) = Listed R new values steps (vec_items v)
 Runs R new values steps (Err (Refused f)) = open_refusal R new values ≡ Some f
 Runs R new values steps (Err NoMemory) = Unit {0}
 
 -- whatever came of a run, its opening was not refused
-abbrev pub Unrefused : Result (Vec ℕ Global) Halt → Type 0
+abbrev pub Unrefused : Result (Vec ℕ Global) (Halt Refusal) → Type 0
 Unrefused (Ok v) = Unit {0}
 Unrefused (Err (Refused f)) = ⊥
 Unrefused (Err NoMemory) = Unit {0}
 
 -- a run by the rule of that name, in the program's new shed
-abbrev pub RunsBy : RuleName → List ℕ → List Step → Result (Vec ℕ Global) Halt → Type 0
+abbrev pub RunsBy : RuleName → List ℕ → List Step → Result (Vec ℕ Global) (Halt Refusal) → Type 0
 RunsBy Third = Runs third (new_shed third_state third_letter)
 RunsBy Last = Runs last (new_shed last_state last_letter)
 

@@ -1,5 +1,7 @@
 // From the text of a schedule to what is printed of it.
 ghost use Rattle.std.specs.Prelude.{◌≡◌, IfOk, Ok};
+ghost use Rattle.std.specs.Borrow.{Array};
+ghost use Rattle.std.specs.Mem.{FitsInMemory};
 ghost use Rattle.third.specs.Third.{third};
 ghost use Rattle.last.specs.Last.{last};
 ghost use Rattle.schedule.specs.Program.{new_shed, third_state, third_letter, last_state, last_letter, printed, PrintedSafely};
@@ -13,7 +15,9 @@ use crate::running::run;
 use crate::types::{ReadError, RuleName, Schedule};
 use conduct::Halt;
 use last::Last;
+use protocol::refusal::Refusal;
 use protocol::types::Step;
+use rules::Rule;
 use std::alloc::{AllocError, Global};
 use third::Third;
 
@@ -26,22 +30,27 @@ const POOL_WORDS: usize = 256;
 
 const BOOK_WORDS: usize = 1024;
 
-// A run by the rule `third` in the program's new shed.
-fn run_third(heap: Global, values: &[u16], steps: &[Step]) -> Result<Vec<u8>, Halt>
-    ensures { Runs third (new_shed third_state third_letter) values.now steps.now result }
+// A run in the program's new shed, with this state and this letter in every cell.
+#[tactic(auto, unfolding(crate::specs::Program::new_shed))]
+fn run_new<R: Rule>(
+    heap: Global,
+    rule: &R,
+    state: R::State,
+    letter: R::Letter,
+    values: &[u16],
+    steps: &[Step],
+) -> Result<Vec<u8>, Halt<Refusal>>
+    requires states { FitsInMemory (Array R.State.row 16) }
+    requires letters { FitsInMemory (Array R.Letter.row 272) }
+    ensures { Runs (R.Rule.behaviour rule.now) (new_shed state letter) values.now steps.now result }
 {
-    let state = third::State {
-        value: 0,
-        hull: None,
-    };
-    let letter = third::Letter { value: 0 };
     let mut states = [state; STATES];
     let mut letters = [letter; LETTERS];
     let mut pool = [0; POOL_WORDS];
     let mut book = [0; BOOK_WORDS];
     run(
         heap,
-        &Third,
+        rule,
         &mut states,
         &mut letters,
         &mut pool,
@@ -51,47 +60,31 @@ fn run_third(heap: Global, values: &[u16], steps: &[Step]) -> Result<Vec<u8>, Ha
     )
 }
 
-// The same by the rule `last`.
-fn run_last(heap: Global, values: &[u16], steps: &[Step]) -> Result<Vec<u8>, Halt>
-    ensures { Runs last (new_shed last_state last_letter) values.now steps.now result }
-{
-    let state = last::State {
-        value: 0,
-        stamp: 0,
-        vote: 0,
-        committed: false,
-        ready: false,
-        hull: None,
-    };
-    let letter = last::Letter { value: 0, stamp: 0 };
-    let mut states = [state; STATES];
-    let mut letters = [letter; LETTERS];
-    let mut pool = [0; POOL_WORDS];
-    let mut book = [0; BOOK_WORDS];
-    run(
-        heap,
-        &Last,
-        &mut states,
-        &mut letters,
-        &mut pool,
-        &mut book,
-        values,
-        steps,
-    )
-}
-
-// The same by the rule of that name.
-fn run_by(heap: Global, rule: RuleName, values: &[u16], steps: &[Step]) -> Result<Vec<u8>, Halt>
+// The same by the rule of that name. Each rule has its own kinds of state and letter, so no `dyn` serves both.
+fn run_by(
+    heap: Global,
+    rule: RuleName,
+    values: &[u16],
+    steps: &[Step],
+) -> Result<Vec<u8>, Halt<Refusal>>
     ensures { RunsBy rule values.now steps.now result }
 {
     match rule {
-        RuleName::Third => run_third(heap, values, steps),
-        RuleName::Last => run_last(heap, values, steps),
+        RuleName::Third => {
+            let state = Third.first(1, 0, 0);
+            let letter = third::Letter { value: 0 };
+            run_new(heap, &Third, state, letter, values, steps)
+        }
+        RuleName::Last => {
+            let state = Last.first(1, 0, 0);
+            let letter = last::Letter { value: 0, stamp: 0 };
+            run_new(heap, &Last, state, letter, values, steps)
+        }
     }
 }
 
 // A run whose opening is not refused ends with its listing, or for want of memory.
-fn unrefused(out: Result<Vec<u8>, Halt>) -> Result<Vec<u8>, AllocError>
+fn unrefused(out: Result<Vec<u8>, Halt<Refusal>>) -> Result<Vec<u8>, AllocError>
     requires { Unrefused out }
     ensures { IfOk result (λ v. out ≡ Ok v) }
 {
@@ -120,9 +113,7 @@ pub fn answer(heap: Global, text: &[u8]) -> Result<Vec<u8>, AllocError>
 {
     match read_schedule(heap, text) {
         Ok(schedule) => play(heap, &schedule),
-        Err(error) => match error {
-            ReadError::Faulty(fault) => fault_listing(heap, fault),
-            ReadError::NoMemory => Err(AllocError),
-        },
+        Err(ReadError::Refused(fault)) => fault_listing(heap, fault),
+        Err(ReadError::NoMemory) => Err(AllocError),
     }
 }

@@ -14,11 +14,11 @@ pub(crate) struct Line {
 }
 
 impl Line {
-    ghost use Rattle.schedule.specs.Listing.{written};
+    ghost use Rattle.schedule.specs.Listing.{line_text};
 
     // A line of blanks.
     pub(crate) fn blank() -> Line
-        ensures { written result ≡ [] }
+        ensures { line_text result ≡ [] }
     {
         Line {
             cells: [b' '; 64],
@@ -28,9 +28,9 @@ impl Line {
 
     // Writes bytes after what is written.
     pub(crate) fn word(&mut self, text: &[u8])
-        requires { length (written self.old) + length text.now ≤ 64 }
-        ensures after { written self.new ≡ written self.old ++ text.now }
-        ensures room { length (written self.new) ≡ length (written self.old) + length text.now }
+        requires { length (line_text self.old) + length text.now ≤ 64 }
+        ensures after { line_text self.new ≡ line_text self.old ++ text.now }
+        ensures room { length (line_text self.new) ≡ length (line_text self.old) + length text.now }
     {
         let end = self.filled + text.len();
         self.cells[self.filled..end].copy_from_slice(text);
@@ -39,16 +39,16 @@ impl Line {
 
     // Writes a number in decimal digits, without leading zeros.
     pub(crate) fn number(&mut self, n: usize)
-        requires { length (written self.old) + length (decimal n) ≤ 64 }
-        ensures after { written self.new ≡ written self.old ++ decimal n }
-        ensures room { length (written self.new) ≡ length (written self.old) + length (decimal n) }
+        requires { length (line_text self.old) + length (decimal n) ≤ 64 }
+        ensures after { line_text self.new ≡ line_text self.old ++ decimal n }
+        ensures room { length (line_text self.new) ≡ length (line_text self.old) + length (decimal n) }
     {
         self.word(Buffer::new().format(n).as_bytes());
     }
 
     // The text, without the blanks after it.
     pub(crate) fn text(&self) -> &[u8]
-        ensures { result.now ≡ written self.now }
+        ensures { result.now ≡ line_text self.now }
     {
         &self.cells[..self.filled]
     }

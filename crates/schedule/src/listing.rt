@@ -1,6 +1,6 @@
 // The lines of the listing, by calls that cannot fail: of a `write!` into the cells of a line no contract says that it is Ok.
 ghost use Rattle.std.specs.Prelude.{◌≡◌, ◌+◌, ◌<◌, ◌≤◌, ◌++◌, length};
-ghost use Rattle.schedule.specs.Listing.{Holds, written, refusal_text, stand_text, hull_text, station_text, book_text, fault_text};
+ghost use Rattle.schedule.specs.Listing.{Holds, line_text, refusal_text, stand_text, hull_text, station_text, book_text, fault_text};
 
 use crate::line::Line;
 use crate::types::Fault;
@@ -33,9 +33,9 @@ fn stand_word(stand: Stand) -> &'static [u8]
 
 // The hull that a station shows, or none.
 fn hull_into(out: &mut Line, hull: Option<u16>)
-    requires { length (written out.old) + length (hull_text hull) ≤ 64 }
-    ensures after { written out.new ≡ written out.old ++ hull_text hull }
-    ensures room { length (written out.new) ≡ length (written out.old) + length (hull_text hull) }
+    requires { length (line_text out.old) + length (hull_text hull) ≤ 64 }
+    ensures after { line_text out.new ≡ line_text out.old ++ hull_text hull }
+    ensures room { length (line_text out.new) ≡ length (line_text out.old) + length (hull_text hull) }
 {
     match hull {
         Some(value) => {
@@ -75,7 +75,8 @@ pub(crate) fn book_line(entries: usize) -> Line
     out
 }
 
-// The one line that is printed of a faulty schedule.
+// The one line that is printed of a faulty schedule. It shares with a refusal's line that two numbers follow two words,
+// which one function of four parameters would say no plainer.
 #[tactic(auto, using(crate::proofs::Filling::decimal_20))]
 pub(crate) fn fault_line(fault: Fault) -> Line
     ensures { Holds result (fault_text fault) }

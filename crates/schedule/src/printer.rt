@@ -26,43 +26,49 @@ fn add(out: &mut Vec<u8>, line: &Line) -> Result<(), AllocError>
     Ok(())
 }
 
-// Adds a line for each refused step.
-fn add_refusals(out: &mut Vec<u8>, refused: &[RefusedStep]) -> Result<(), AllocError>
-    ensures { OnOk result (out.new.items ≡ out.old.items ++ refusals_text refused.now) }
-{
-    for step in refused {
-        add(out, &refusal_line(step.line, step.refusal))?;
-    }
-    Ok(())
+// What is told of a run: the refused steps in their order, what is seen of each station, and the book's entries.
+#[derive(Drop)]
+pub(crate) struct Report<'a> {
+    pub refused: Vec<RefusedStep>,
+    pub stations: Vec<Sight>,
+    pub book: &'a [u64],
+    ghost few: { length stations.items ≤ 16 },
+    ghost short: { length book.now ≤ 65536 },
 }
 
-// Adds a line for each station, with its reception from the book.
-fn add_stations(out: &mut Vec<u8>, stations: &[Sight], book: &[u64]) -> Result<(), AllocError>
-    requires { (length stations.now ≤ 16) × (length book.now ≤ 65536) }
-    ensures { OnOk result (out.new.items ≡ out.old.items ++ stations_from (length stations.now) book.now 0 stations.now) }
-{
-    for (station, sight) in stations.iter().enumerate() {
-        let air = reception(stations.len(), station, book);
-        add(out, &station_line(station, *sight, air))?;
+impl Report<'_> {
+    // Adds a line for each refused step.
+    fn add_refusals(&self, out: &mut Vec<u8>) -> Result<(), AllocError>
+        ensures { OnOk result (out.new.items ≡ out.old.items ++ refusals_text self.now.refused.items) }
+    {
+        for step in self.refused.iter() {
+            add(out, &refusal_line(step.line, step.refusal))?;
+        }
+        Ok(())
     }
-    Ok(())
-}
 
-// The refusals in the order of their steps, the stations, and the number of the book's entries.
-pub(crate) fn listing(
-    heap: Global,
-    refused: &[RefusedStep],
-    stations: &[Sight],
-    book: &[u64],
-) -> Result<Vec<u8>, AllocError>
-    requires { (length stations.now ≤ 16) × (length book.now ≤ 65536) }
-    ensures { IfOk result (λ v. v.items ≡ listing_text refused.now stations.now book.now) }
-{
-    let mut out = Vec::new(heap);
-    add_refusals(&mut out, refused)?;
-    add_stations(&mut out, stations, book)?;
-    add(&mut out, &book_line(book.len()))?;
-    Ok(out)
+    // Adds a line for each station, with its reception from the book.
+    fn add_stations(&self, out: &mut Vec<u8>) -> Result<(), AllocError>
+        ensures { OnOk result (out.new.items ≡ out.old.items
+            ++ stations_from (length self.now.stations.items) self.now.book.now 0 self.now.stations.items) }
+    {
+        for (station, sight) in self.stations.iter().enumerate() {
+            let air = reception(self.stations.len(), station, self.book);
+            add(out, &station_line(station, *sight, air))?;
+        }
+        Ok(())
+    }
+
+    // The lines of the refused steps, of the stations, and of the number of the book's entries.
+    pub(crate) fn print(&self, heap: Global) -> Result<Vec<u8>, AllocError>
+        ensures { IfOk result (λ v. v.items ≡ listing_text self.now.refused.items self.now.stations.items self.now.book.now) }
+    {
+        let mut out = Vec::new(heap);
+        self.add_refusals(&mut out)?;
+        self.add_stations(&mut out)?;
+        add(&mut out, &book_line(self.book.len()))?;
+        Ok(out)
+    }
 }
 
 // What is printed of a schedule with a fault.

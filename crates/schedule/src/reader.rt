@@ -120,13 +120,13 @@ fn read_steps(heap: Global, text: &[u8]) -> Result<Vec<Step>, ReadError>
     for line in text.split_inclusive(|byte| *byte == b'\n') {
         let number = steps.len() + FIRST_STEP;
         let [line @ .., b'\n'] = line else {
-            return Err(ReadError::Faulty(Fault::Unfinished(number)));
+            return Err(ReadError::Refused(Fault::Unfinished(number)));
         };
         let step = step_line(line).ok_or(Fault::WrongStep(number))?;
         steps.push(step)?;
     }
     if steps.is_empty() {
-        return Err(ReadError::Faulty(Fault::Unfinished(FIRST_STEP)));
+        return Err(ReadError::Refused(Fault::Unfinished(FIRST_STEP)));
     }
     Ok(steps)
 }
@@ -138,7 +138,7 @@ pub fn read_schedule(heap: Global, text: &[u8]) -> Result<Schedule, ReadError>
     ensures laws { ReadingLaws }
 {
     if text.len() > MAX_BYTES {
-        return Err(ReadError::Faulty(Fault::TooLong));
+        return Err(ReadError::Refused(Fault::TooLong));
     }
     let (first, rest) = finished_line(text, 1)?;
     let rule = rule_line(first).ok_or(Fault::WrongRule)?;

@@ -1,16 +1,17 @@
 // A run of a list of steps in a new shed, and its listing.
-ghost use Rattle.std.specs.Prelude.{◌≡◌, [], ◌∷◌, ◌++◌, IfOk, OnOk};
+ghost use Rattle.std.specs.Prelude.{◌≡◌, IfOk};
 ghost use Rattle.protocol.specs.World.{shut};
-ghost use Rattle.shed_core.specs.Of.{world};
+ghost use Rattle.shed_core.specs.Of.{world_of};
 ghost use Rattle.schedule.specs.Program.{refused_from};
 ghost use Rattle.schedule.specs.Running.{Seen, Runs};
 
-use crate::printer::{RefusedStep, listing};
+use crate::printer::{RefusedStep, Report};
 use crate::reader::FIRST_STEP;
 use conduct::{Halt, conduct};
 use protocol::refusal::Refusal;
 use protocol::types::{Sight, Step};
 use rules::Rule;
+use shed_core::buffers::Buffers;
 use shed_core::shed::Shed;
 use std::alloc::{AllocError, Global};
 
@@ -31,37 +32,32 @@ fn refused_steps(heap: Global, refusals: &[Option<Refusal>]) -> Result<Vec<Refus
     Ok(refused)
 }
 
-// Adds what is seen of one more station.
-fn add_sight(sights: &mut Vec<Sight>, sight: Sight) -> Result<(), AllocError>
-    ensures { OnOk result (sights.new.items ≡ sights.old.items ++ (sight ∷ [])) }
-{
-    sights.push(sight)?;
-    Ok(())
-}
-
 // What is seen of each station below n.
 fn look_around<R: Rule>(
     heap: Global,
     shed: &Shed,
     rule: &R,
-    states: &[R::State],
-    letters: &[R::Letter],
-    pool: &[u64],
-    book: &[u64],
+    buffers: &Buffers<'_, R::State, R::Letter>,
     n: usize,
-) -> Result<Vec<Sight>, Halt>
-    ensures { Seen (R.Rule.behaviour rule.now)
-        (world shed.now states.now letters.now pool.now book.now) n result }
+) -> Result<Vec<Sight>, Halt<Refusal>>
+    ensures { Seen (R.Rule.behaviour rule.now) (world_of shed.now buffers.now) n result }
 {
+    let Buffers {
+        states,
+        letters,
+        pool,
+        book,
+    } = buffers;
     let mut sights = Vec::new(heap);
     for station in 0..n {
         let sight = shed.look(rule, states, letters, pool, book, station)?;
-        add_sight(&mut sights, sight)?;
+        sights.push(sight)?;
     }
     Ok(sights)
 }
 
-// Opens a new shed on these buffers, makes the steps and answers the listing. Refused is only the opening.
+// Opens a new shed on these buffers, makes the steps and answers the listing. Refused is only the opening. The buffers
+// come one by one, as a struct that borrows a generic caller's own arrays is beyond what the check can walk through.
 pub(crate) fn run<R: Rule>(
     heap: Global,
     rule: &R,
@@ -71,14 +67,23 @@ pub(crate) fn run<R: Rule>(
     book: &mut [u64],
     values: &[u16],
     steps: &[Step],
-) -> Result<Vec<u8>, Halt>
-    ensures { Runs (R.Rule.behaviour rule.now)
-        (shut states.old letters.old pool.old book.old)
-        values.now steps.now result }
+) -> Result<Vec<u8>, Halt<Refusal>>
+    ensures { Runs (R.Rule.behaviour rule.now) (shut states.old letters.old pool.old book.old) values.now steps.now result }
 {
-    let (shed, refusals) = conduct(heap, rule, states, letters, pool, book, values, steps)?;
+    let mut buffers = Buffers {
+        states,
+        letters,
+        pool,
+        book,
+    };
+    let (shed, refusals) = conduct(heap, rule, &mut buffers, values, steps)?;
     let refused = refused_steps(heap, refusals.as_slice())?;
-    let sights = look_around(heap, &shed, rule, states, letters, pool, book, values.len())?;
-    let written = &book[0..shed.entries()];
-    Ok(listing(heap, refused.as_slice(), sights.as_slice(), written)?)
+    let stations = look_around(heap, &shed, rule, &buffers, values.len())?;
+    let entries = shed.entries();
+    let report = Report {
+        refused,
+        stations,
+        book: &buffers.book[..entries],
+    };
+    Ok(report.print(heap)?)
 }

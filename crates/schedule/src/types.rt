@@ -1,10 +1,10 @@
 // A schedule, and what can be wrong with its text.
 ghost use Rattle.std.specs.Prelude.{◌≡◌};
-ghost use Rattle.schedule.specs.declared.types.ReadError.TheVariants.{Faulty, NoMemory};
+ghost use Rattle.conduct.specs.declared.Halt.TheVariants.{Refused};
 ghost use Rattle.schedule.specs.Faults.{fault_number, fault_line};
 
+use conduct::Halt;
 use protocol::types::Step;
-use std::alloc::{AllocError, AllocFailed};
 
 // The rules that a schedule can name.
 #[derive(Clone, Copy, Debug, PartialEq, Eq)]
@@ -14,7 +14,7 @@ pub enum RuleName {
 }
 
 // A rule, the stations' opening values, and the steps in their order.
-#[derive(Drop)]
+#[derive(Debug, PartialEq, Eq, Drop)]
 pub struct Schedule {
     pub rule: RuleName,
     pub values: Vec<u16>,
@@ -63,33 +63,13 @@ impl Fault {
     }
 }
 
-// Why a schedule was not read.
-#[derive(Clone, Copy)]
-pub enum ReadError {
-    Faulty(Fault),
-    NoMemory,
-}
+// Why a schedule was not read: its text has a fault, or there was no memory.
+pub type ReadError = Halt<Fault>;
 
-impl From<Fault> for ReadError {
-    ghost from_gives = { λ f r. r ≡ Faulty f };
+impl From<Fault> for Halt<Fault> {
+    ghost from_gives = { λ f r. r ≡ Refused f };
 
-    fn from(fault: Fault) -> ReadError {
-        ReadError::Faulty(fault)
-    }
-}
-
-impl From<AllocError> for ReadError {
-    ghost from_gives = { λ _ r. r ≡ NoMemory };
-
-    fn from(_error: AllocError) -> ReadError {
-        ReadError::NoMemory
-    }
-}
-
-impl<T: Drop> From<AllocFailed<T>> for ReadError {
-    ghost from_gives = { λ _ r. r ≡ NoMemory };
-
-    fn from(_refused: AllocFailed<T>) -> ReadError {
-        ReadError::NoMemory
+    fn from(fault: Fault) -> Halt<Fault> {
+        Halt::Refused(fault)
     }
 }

@@ -1,6 +1,6 @@
 -- A station's frames, one receiver after another. Assumes nothing.
-use Rattle.std.proofs.Common.{◌≡◌, ℕ, suc, ◌+◌, ◌-◌, ◌<◌, List, ◌∷◌, ◌++◌, length, take, set, Some, None, Option, sym, ap, ◌∙◌, add-one, arith}
-use Rattle.std.proofs.lemmas.List.{take_more_set, append_assoc}
+use Rattle.std.proofs.Common.{◌≡◌, ℕ, suc, ◌+◌, ◌-◌, ◌<◌, List, [], ◌∷◌, ◌++◌, Some, None, Option, sym, ap, ◌∙◌, add-one, arith}
+use Rattle.std.proofs.lemmas.List.{append_assoc}
 use Rattle.rules.specs.Rule.{Behaviour}
 use Rattle.frames.specs.Frame.{pack_frame}
 use Rattle.protocol.specs.Calls.{frames_from}
@@ -18,11 +18,9 @@ module _ {S L : Type 0} (R : Behaviour S L) (n p k : ℕ) (s : S) (q : ℕ) (h :
       ap (frames_from R n p k s q) e
       ∙ ap (λ x. elim (R.letter n p k s q) [ None ↦ frames_from R n p k s x (n - (q + 1)) | Some l ↦ pack_frame R (p, q, k, l) ∷ frames_from R n p k s x (n - (q + 1)) ]) (sym (add-one q))
 
-  module _ (words : List ℕ) (count : ℕ) (all : List ℕ) (before : take count words ++ frames_from R n p k s q (n - q) ≡ all) where
-    pub none_more : R.letter n p k s q ≡ None → take count words ++ rest ≡ all
-    none_more e = ap (λ ws. take count words ++ ws) (sym (more ∙ ap with_letter e)) ∙ before
+  module _ (words all : List ℕ) (before : words ++ frames_from R n p k s q (n - q) ≡ all) where
+    pub none_more : R.letter n p k s q ≡ None → words ++ rest ≡ all
+    none_more e = ap (λ ws. words ++ ws) (sym (more ∙ ap with_letter e)) ∙ before
 
-    pub some_more : (l : L) (w : ℕ) → count < length words → R.letter n p k s q ≡ Some l → w ≡ pack_frame R (p, q, k, l) →
-        take (count + 1) (set words count w) ++ rest ≡ all
-    some_more l w room e f =
-        rw (take_more_set words count w room, append_assoc) (ap (λ x. take count words ++ (x ∷ rest)) f ∙ ap (λ ws. take count words ++ ws) (sym (more ∙ ap with_letter e)) ∙ before)
+    pub some_more : (l : L) (w : ℕ) → R.letter n p k s q ≡ Some l → w ≡ pack_frame R (p, q, k, l) → (words ++ w ∷ []) ++ rest ≡ all
+    some_more l w e f = rw append_assoc (ap (λ x. words ++ (x ∷ rest)) f ∙ ap (λ ws. words ++ ws) (sym (more ∙ ap with_letter e)) ∙ before)

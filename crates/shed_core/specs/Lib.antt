@@ -1,3 +1,2 @@
 pub mod Of
-pub mod Ages
 pub mod Checks

@@ -1,7 +1,8 @@
 -- A shed with its buffers, as a value, and what a call's answer and buffers come to. Assumes nothing.
 use Rattle.std.specs.Prelude.{◌≡◌, ℕ, List, replicate}
-use Rattle.protocol.specs.World.{World, blank}
+use Rattle.protocol.specs.World.{World, blank, shut}
 use Rattle.shed_core.specs.declared.shed.Shed.{Shed}
+use Rattle.shed_core.specs.declared.buffers.Buffers.{Buffers}
 
 abbrev pub world : {S L : Type 0} → Shed → List S → List L → List ℕ → List ℕ → World S L
 world s states letters pool book = record {
@@ -16,6 +17,21 @@ world s states letters pool book = record {
   pool = pool;
   book = book;
 }
+
+-- with the buffers that a call is lent
+abbrev pub world_of : {S L : Type 0} → Shed → Buffers S L → World S L
+world_of s b = world s b.states.now b.letters.now b.pool.now b.book.now
+
+-- a new shed with these buffers
+abbrev pub shut_with : {S L : Type 0} → Buffers S L → World S L
+shut_with b = shut b.states.now b.letters.now b.pool.now b.book.now
+
+-- a call leaves the buffers in the places where they were lent
+pub record StillLent {S L : Type 0} (before after : Buffers S L) : Type 0 where
+  pub same_states : after.states.ghost_name ≡ before.states.ghost_name
+  pub same_letters : after.letters.ghost_name ≡ before.letters.ghost_name
+  pub same_pool : after.pool.ghost_name ≡ before.pool.ghost_name
+  pub same_book : after.book.ghost_name ≡ before.book.ghost_name
 
 -- a call answered and left what its definition gives
 pub record ComesTo {A S L : Type 0} (answer : A) (after : World S L) (outcome : A × World S L) : Type 0 where

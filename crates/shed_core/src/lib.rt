@@ -1,5 +1,6 @@
 // The shed and its calls.
 #![tactic(auto)]
 
+pub mod buffers;
 pub mod shed;
 pub mod table;

@@ -12,7 +12,7 @@ mod opening;
 mod sending;
 mod turning;
 
-#[derive(Clone, Copy)]
+#[derive(Clone, Copy, Debug, PartialEq, Eq)]
 pub struct Shed {
     // The number of stations, 0 while the shed is shut.
     count: usize,

@@ -5,7 +5,7 @@ ghost use Rattle.protocol.specs.World.{blank, hearing, holding};
 use protocol::types::{Held, Record, Stand};
 
 // One record for each of sixteen stations; a shed with fewer uses the first.
-#[derive(Clone, Copy)]
+#[derive(Clone, Copy, Debug, PartialEq, Eq)]
 pub struct Table {
     records: [Record; 16],
 }
@@ -35,32 +35,26 @@ impl Table {
     pub fn record(&self, p: usize) -> Record
         ensures { result ≡ slice_index_or self.now.records p blank }
     {
-        let all = &self.records[..];
-        if p < all.len() {
-            all[p]
-        } else {
-            blank_record()
-        }
+        self.records.get(p).copied().unwrap_or_else(blank_record)
     }
 
     // Gives station p another record.
     pub fn change(&mut self, p: usize, new: Record)
         ensures { self.new.records ≡ slice_set self.old.records p new }
     {
-        let records = &mut self.records[..];
-        if p < records.len() {
-            records[p] = new;
+        if p < self.records.len() {
+            self.records[p] = new;
         }
     }
 
-    // Station p heard q.
+    // Station p heard q. This and the next write one field in place: a copy changed and given back, or a closure, would
+    // say the same at more length.
     pub(crate) fn hear(&mut self, p: usize, q: usize)
         requires { q < 16 }
         ensures { self.new.records ≡ slice_set self.old.records p (hearing (slice_index_or self.old.records p blank) q) }
     {
-        let records = &mut self.records[..];
-        if p < records.len() {
-            records[p].heard[q] = true;
+        if p < self.records.len() {
+            self.records[p].heard[q] = true;
         }
     }
 
@@ -68,9 +62,8 @@ impl Table {
     pub(crate) fn hold(&mut self, p: usize, held: Held)
         ensures { self.new.records ≡ slice_set self.old.records p (holding (slice_index_or self.old.records p blank) held) }
     {
-        let records = &mut self.records[..];
-        if p < records.len() {
-            records[p].hold = Some(held);
+        if p < self.records.len() {
+            self.records[p].hold = Some(held);
         }
     }
 }

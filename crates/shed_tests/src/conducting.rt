@@ -1,7 +1,8 @@
 // Lists of steps through conduct.
 use conduct::{Halt, conduct};
 use protocol::refusal::Refusal;
-use protocol::types::{Stand, Step};
+use protocol::types::{Sight, Stand, Step};
+use shed_core::buffers::Buffers;
 use std::alloc::Global;
 use std::test::Fail;
 use third::{Letter, State, Third};
@@ -31,15 +32,8 @@ const BLANK: State = State {
     hull: None,
 };
 
-fn number(refusal: Option<Refusal>) -> u8 {
-    match refusal {
-        Some(refusal) => refusal.number(),
-        None => 0,
-    }
-}
-
 // What was not conducted, as a test's failure.
-fn halted(halt: Halt) -> Fail {
+fn halted(halt: Halt<Refusal>) -> Fail {
     match halt {
         Halt::Refused(_) => Fail::new("refused"),
         Halt::NoMemory => Fail::new("no memory"),
@@ -53,25 +47,19 @@ fn printed_example(rt: HostRuntime) -> Result<(), Fail> {
     let mut letters = [Letter { value: 0 }; 6];
     let mut pool = [1u64; 8];
     let mut book = [1u64; 5];
-    let answer = conduct(
-        rt.alloc(),
-        &Third,
-        &mut states,
-        &mut letters,
-        &mut pool,
-        &mut book,
-        &[9, 7],
-        &EXAMPLE,
-    );
-    let (mut shed, told) = match answer {
-        Ok(done) => done,
-        Err(halt) => return Err(halted(halt)),
+    let mut buffers = Buffers {
+        states: &mut states,
+        letters: &mut letters,
+        pool: &mut pool,
+        book: &mut book,
     };
-    let wanted = [0u8, 0, 0, 0, 0, 0, 0, 12, 0, 0, 0, 0, 0, 0, 0, 11];
-    assert_eq!(rt; told.len(), wanted.len());
-    for (refusal, number_wanted) in told.iter().zip(wanted.iter()) {
-        assert_eq!(rt; number(*refusal), *number_wanted);
-    }
+    let done = conduct(rt.alloc(), &Third, &mut buffers, &[9, 7], &EXAMPLE);
+    let (mut shed, told) = done.map_err(halted)?;
+    let mut wanted = [None; 16];
+    wanted[7] = Some(Refusal::HoldsLetter);
+    wanted[15] = Some(Refusal::NotListening);
+    assert_eq!(rt; told.as_slice(), wanted.as_slice());
+    assert_eq!(rt; shed.crash(&Third, &mut buffers, 0), Ok(0));
     assert_eq!(rt;
         book,
         [
@@ -82,16 +70,16 @@ fn printed_example(rt: HostRuntime) -> Result<(), Fail> {
             0,
         ]
     );
-    let crash = shed.crash(&Third, &mut states, &mut letters, &mut pool, &mut book, 0);
-    assert_eq!(rt; number(crash.err()), 0);
-    for station in 0..2 {
-        match shed.look(&Third, &states, &letters, &pool, &book, station) {
-            Ok(sight) => {
-                assert_eq!(rt; (sight.round, sight.hull), (2, Some(7)));
-                assert_eq!(rt; matches!(sight.stand, Stand::Down), station == 0);
-            }
-            Err(_) => return Err(Fail::new("look refused")),
-        }
+    for (station, stand) in [Stand::Down, Stand::Fresh].iter().enumerate() {
+        let sight = Sight {
+            stand: *stand,
+            round: 2,
+            hull: Some(7),
+        };
+        assert_eq!(rt;
+            shed.look(&Third, &states, &letters, &pool, &book, station),
+            Ok(sight)
+        );
     }
     Ok(())
 }
@@ -103,23 +91,16 @@ fn refused_opening(rt: HostRuntime) -> Result<(), Fail> {
     let mut letters = [Letter { value: 3 }; 6];
     let mut pool = [4u64; 8];
     let mut book = [5u64; 5];
-    let answer = conduct(
-        rt.alloc(),
-        &Third,
-        &mut states,
-        &mut letters,
-        &mut pool,
-        &mut book,
-        &[],
-        &EXAMPLE,
-    );
-    match answer {
-        Ok(_) => return Err(Fail::new("opened")),
-        Err(Halt::Refused(refusal)) => assert_eq!(rt; refusal.number(), 3),
-        Err(Halt::NoMemory) => return Err(Fail::new("no memory")),
-    }
-    assert_eq!(rt; (states[0].value, states[1].value), (0, 0));
-    assert_eq!(rt; letters[0].value, 3);
+    let mut buffers = Buffers {
+        states: &mut states,
+        letters: &mut letters,
+        pool: &mut pool,
+        book: &mut book,
+    };
+    let done = conduct(rt.alloc(), &Third, &mut buffers, &[], &EXAMPLE);
+    assert_eq!(rt; done.err(), Some(Halt::Refused(Refusal::ValueCount)));
+    assert_eq!(rt; states, [BLANK; 2]);
+    assert_eq!(rt; letters, [Letter { value: 3 }; 6]);
     assert_eq!(rt; pool, [4; 8]);
     assert_eq!(rt; book, [5; 5]);
     Ok(())
@@ -145,41 +126,28 @@ fn last_round(rt: HostRuntime) -> Result<(), Fail> {
     let mut pool = [0u64; 1];
     let mut book = vec![in rt.alloc(); 0u64; 4096]?;
     let steps = rounds(rt.alloc(), 4095)?;
-    let answer = conduct(
-        rt.alloc(),
-        &Third,
-        &mut states,
-        &mut letters,
-        &mut pool,
-        book.as_mut_slice(),
-        &[5],
-        steps.as_slice(),
-    );
-    let (mut shed, told) = match answer {
-        Ok(done) => done,
-        Err(halt) => return Err(halted(halt)),
+    let mut buffers = Buffers {
+        states: &mut states,
+        letters: &mut letters,
+        pool: &mut pool,
+        book: book.as_mut_slice(),
     };
-    for refusal in told.iter() {
-        assert_eq!(rt; number(*refusal), 0);
-    }
-    let words = book.clone()?;
-    let frames = pool;
-    let turn = shed.turn(
-        &Third,
-        &mut states,
-        &mut letters,
-        &mut pool,
-        book.as_mut_slice(),
-        0,
-    );
-    assert_eq!(rt; number(turn.err()), 15);
-    assert_eq!(rt; pool, frames);
+    let done = conduct(rt.alloc(), &Third, &mut buffers, &[5], steps.as_slice());
+    let (mut shed, told) = done.map_err(halted)?;
+    assert!(rt; told.iter().all(|refusal| refusal.is_none()));
+    let frame = buffers.pool.first().copied();
+    let words = buffers.book.to_vec(rt.alloc())?;
+    assert_eq!(rt; shed.turn(&Third, &mut buffers, 0), Err(Refusal::LastRound));
+    assert_eq!(rt; pool.first().copied(), frame);
     assert_eq!(rt; book.as_slice(), words.as_slice());
-    match shed.look(&Third, &states, &letters, &pool, book.as_slice(), 0) {
-        Ok(sight) => {
-            assert_eq!(rt; (sight.round, sight.hull), (4095, None));
-            Ok(())
-        },
-        Err(_) => Err(Fail::new("look refused")),
-    }
+    let sight = Sight {
+        stand: Stand::Listening,
+        round: 4095,
+        hull: None,
+    };
+    assert_eq!(rt;
+        shed.look(&Third, &states, &letters, &pool, book.as_slice(), 0),
+        Ok(sight)
+    );
+    Ok(())
 }

@@ -10,32 +10,24 @@ mod tests {
     use conduct::steps::take_step;
     use frames::pool::{PoolRefusal, add, frame_at, repeat, take_out};
     use protocol::refusal::Refusal;
-    use protocol::types::{Stand, Step};
+    use protocol::types::{Sight, Stand, Step};
+    use shed_core::buffers::Buffers;
     use shed_core::shed::Shed;
     use std::process::Abort;
     use third::{Letter, State, Third};
 
-    // A shed and its buffers. Of the pool and the book the shed is lent the first words only.
-    #[derive(Clone, Copy)]
-    struct Bench {
+    // A shed and its buffers, of which the pool has POOL words and the book BOOK.
+    #[derive(Clone, Copy, Debug, PartialEq, Eq)]
+    struct Bench<const POOL: usize, const BOOK: usize> {
         shed: Shed,
         states: [State; 3],
         letters: [Letter; 12],
-        pool: [u64; 8],
-        pool_len: usize,
-        book: [u64; 4],
-        book_len: usize,
-    }
-
-    fn number(refusal: Option<Refusal>) -> u8 {
-        match refusal {
-            Some(refusal) => refusal.number(),
-            None => 0,
-        }
+        pool: [u64; POOL],
+        book: [u64; BOOK],
     }
 
     // A new shed on buffers with something in every cell.
-    fn shut(pool_len: usize, book_len: usize) -> Bench {
+    fn shut<const POOL: usize, const BOOK: usize>() -> Bench<POOL, BOOK> {
         Bench {
             shed: Shed::new(),
             states: [State {
@@ -43,124 +35,97 @@ mod tests {
                 hull: Some(2),
             }; 3],
             letters: [Letter { value: 3 }; 12],
-            pool: [4; 8],
-            pool_len,
-            book: [5; 4],
-            book_len,
+            pool: [4; POOL],
+            book: [5; BOOK],
         }
     }
 
-    // Opens the shed with the values; the number of the refusal, and what is left.
-    fn open(bench: Bench, values: &[u16]) -> (u8, Bench) {
-        let mut b = bench;
-        let mut shed = b.shed;
-        let mut states = b.states;
-        let mut letters = b.letters;
-        let mut pool = b.pool;
-        let mut book = b.book;
-        let answer = shed.open(
-            &Third,
-            &mut states,
-            &mut letters,
-            &mut pool[0..b.pool_len.min(8)],
-            &mut book[0..b.book_len.min(4)],
-            values,
-        );
-        b.shed = shed;
-        b.states = states;
-        b.letters = letters;
-        b.pool = pool;
-        b.book = book;
-        (number(answer.err()), b)
+    // Opens the shed with the values; its refusal or none.
+    fn open<const POOL: usize, const BOOK: usize>(
+        bench: &mut Bench<POOL, BOOK>,
+        values: &[u16],
+    ) -> Option<Refusal> {
+        let mut buffers = Buffers {
+            states: &mut bench.states,
+            letters: &mut bench.letters,
+            pool: &mut bench.pool,
+            book: &mut bench.book,
+        };
+        bench.shed.open(&Third, &mut buffers, values).err()
     }
 
-    // Makes one step; the number of the refusal, and what is left.
-    fn step(bench: Bench, call: Step) -> (u8, Bench) {
-        let mut b = bench;
-        let mut shed = b.shed;
-        let mut states = b.states;
-        let mut letters = b.letters;
-        let mut pool = b.pool;
-        let mut book = b.book;
-        let refusal = take_step(
-            &mut shed,
-            &Third,
-            &mut states,
-            &mut letters,
-            &mut pool[0..b.pool_len.min(8)],
-            &mut book[0..b.book_len.min(4)],
-            call,
-        );
-        b.shed = shed;
-        b.states = states;
-        b.letters = letters;
-        b.pool = pool;
-        b.book = book;
-        (number(refusal), b)
+    // Makes one step; its refusal or none.
+    fn step<const POOL: usize, const BOOK: usize>(
+        bench: &mut Bench<POOL, BOOK>,
+        call: Step,
+    ) -> Option<Refusal> {
+        let mut buffers = Buffers {
+            states: &mut bench.states,
+            letters: &mut bench.letters,
+            pool: &mut bench.pool,
+            book: &mut bench.book,
+        };
+        take_step(&mut bench.shed, &Third, &mut buffers, call)
     }
 
     // A shed with the opening values 9 and 7 after some steps, of which none may be refused.
-    fn after(rt: &impl Abort, pool_len: usize, book_len: usize, calls: &[Step]) -> Bench {
-        let (refused, mut bench) = open(shut(pool_len, book_len), &[9, 7]);
-        assert_eq!(rt; refused, 0);
+    fn after<const POOL: usize, const BOOK: usize>(
+        rt: &impl Abort,
+        calls: &[Step],
+    ) -> Bench<POOL, BOOK> {
+        let mut bench = shut();
+        assert_eq!(rt; open(&mut bench, &[9, 7]), None);
         for call in calls {
-            let (refused, next) = step(bench, *call);
-            assert_eq!(rt; refused, 0);
-            bench = next;
+            assert_eq!(rt; step(&mut bench, *call), None);
         }
         bench
     }
 
-    // What is seen of a station: 0, 1 or 2 for fresh, listening or down, its round and its hull; nothing if it is
-    // refused.
-    fn seen(b: &Bench, station: usize) -> Option<(u8, u16, Option<u16>)> {
-        let pool = &b.pool[..];
-        let book = &b.book[..];
-        let sight = b
-            .shed
-            .look(
-                &Third,
-                &b.states,
-                &b.letters,
-                &pool[0..b.pool_len.min(8)],
-                &book[0..b.book_len.min(4)],
-                station,
-            )
-            .ok()?;
-        let stand = match sight.stand {
-            Stand::Fresh => 0,
-            Stand::Listening => 1,
-            Stand::Down => 2,
-        };
-        Some((stand, sight.round, sight.hull))
+    fn look<const POOL: usize, const BOOK: usize>(
+        bench: &Bench<POOL, BOOK>,
+        station: usize,
+    ) -> Result<Sight, Refusal> {
+        let Bench {
+            shed,
+            states,
+            letters,
+            pool,
+            book,
+        } = bench;
+        shed.look(&Third, states, letters, pool, book, station)
     }
 
-    // All cells and words, and what is seen of the stations, are the same.
-    fn check_same(rt: &impl Abort, before: &Bench, after: &Bench) {
-        for (x, y) in before.states.iter().zip(after.states.iter()) {
-            assert_eq!(rt; (x.value, x.hull), (y.value, y.hull));
-        }
-        for (x, y) in before.letters.iter().zip(after.letters.iter()) {
-            assert_eq!(rt; x.value, y.value);
-        }
-        assert_eq!(rt; before.pool, after.pool);
-        assert_eq!(rt; before.book, after.book);
-        assert_eq!(rt; seen(before, 0), seen(after, 0));
-        assert_eq!(rt; seen(before, 1), seen(after, 1));
+    // What is seen of a station.
+    fn sight(stand: Stand, round: u16) -> Result<Sight, Refusal> {
+        let hull = None;
+        Ok(Sight { stand, round, hull })
     }
 
-    // A step is refused with the number, and nothing changes.
-    fn check_refused(rt: &impl Abort, bench: Bench, call: Step, wanted: u8) {
-        let (refused, left) = step(bench, call);
-        assert_eq!(rt; refused, wanted);
-        check_same(rt, &bench, &left);
+    // A step is refused with the number, and nothing changes. This and the next would be one function of a closure, but
+    // the check does not walk through a bound on a closure that names a const parameter.
+    fn check_refused<const POOL: usize, const BOOK: usize>(
+        rt: &impl Abort,
+        bench: Bench<POOL, BOOK>,
+        call: Step,
+        number: u8,
+    ) {
+        let mut left = bench;
+        let refused = step(&mut left, call);
+        assert_eq!(rt; refused.map(|r| r.number()), Some(number));
+        assert_eq!(rt; left, bench);
     }
 
     // An opening is refused with the number, and nothing changes.
-    fn check_unopened(rt: &impl Abort, bench: Bench, values: &[u16], wanted: u8) {
-        let (refused, left) = open(bench, values);
-        assert_eq!(rt; refused, wanted);
-        check_same(rt, &bench, &left);
+    fn check_unopened<const POOL: usize, const BOOK: usize>(
+        rt: &impl Abort,
+        bench: Bench<POOL, BOOK>,
+        values: &[u16],
+        number: u8,
+    ) {
+        let mut left = bench;
+        let refused = open(&mut left, values);
+        assert_eq!(rt; refused.map(|r| r.number()), Some(number));
+        assert_eq!(rt; left, bench);
     }
 
     // The frames after both stations have sent lie in this order: 0 to 0, 0 to 1, 1 to 0, 1 to 1.
@@ -179,36 +144,53 @@ mod tests {
 
     #[test]
     fn openings_refused(rt: HostRuntime) {
-        check_unopened(&rt, after(&rt, 8, 4, &[]), &[9, 7], 2);
-        check_unopened(&rt, shut(8, 4), &[], 3);
-        check_unopened(&rt, shut(8, 4), &[1; 17], 3);
-        check_unopened(&rt, shut(0, 4), &[9, 7], 4);
-        check_unopened(&rt, shut(8, 4), &[1; 4], 5);
+        check_unopened(&rt, after::<8, 4>(&rt, &[]), &[9, 7], 2);
+        check_unopened(&rt, shut::<8, 4>(), &[], 3);
+        check_unopened(&rt, shut::<8, 4>(), &[1; 17], 3);
+        check_unopened(&rt, shut::<0, 4>(), &[9, 7], 4);
+        check_unopened(&rt, shut::<8, 4>(), &[1; 4], 5);
     }
 
     #[test]
     fn steps_refused(rt: HostRuntime) {
-        check_refused(&rt, shut(8, 4), Step::Send(0), 1);
-        let mut longer = after(&rt, 7, 4, &[]);
-        longer.pool_len = 8;
+        check_refused(&rt, shut::<8, 4>(), Step::Send(0), 1);
+        let Bench {
+            shed,
+            states,
+            letters,
+            book,
+            ..
+        } = after::<7, 4>(&rt, &[]);
+        let longer = Bench::<8, 4> {
+            shed,
+            states,
+            letters,
+            pool: [0, 0, 0, 0, 0, 0, 0, 4],
+            book,
+        };
         check_refused(&rt, longer, Step::Turn(0), 5);
-        check_refused(&rt, after(&rt, 8, 4, &[]), Step::Send(2), 6);
-        check_refused(&rt, after(&rt, 8, 4, &[]), Step::Deliver(0), 7);
-        let mut unreadable = after(&rt, 8, 4, &BOTH_SENT);
+        check_refused(&rt, after::<8, 4>(&rt, &[]), Step::Send(2), 6);
+        check_refused(&rt, after::<8, 4>(&rt, &[]), Step::Deliver(0), 7);
+        let mut unreadable = after::<8, 4>(&rt, &BOTH_SENT);
         unreadable.pool[1] = 0x2000_0000_0000_0000;
         check_refused(&rt, unreadable, Step::Deliver(1), 8);
-        check_refused(&rt, after(&rt, 8, 4, &[Step::Crash(0)]), Step::Send(0), 9);
-        check_refused(&rt, after(&rt, 8, 4, &[Step::Send(0)]), Step::Send(0), 10);
-        check_refused(&rt, after(&rt, 8, 4, &[]), Step::Turn(0), 11);
-        check_refused(&rt, after(&rt, 8, 4, &EARLY), Step::Deliver(0), 12);
-        check_refused(&rt, after(&rt, 3, 4, &[Step::Send(0)]), Step::Send(1), 13);
-        check_refused(&rt, after(&rt, 2, 4, &[Step::Send(0)]), Step::Repeat(1), 13);
-        check_refused(&rt, after(&rt, 2, 0, &[Step::Send(0)]), Step::Turn(0), 14);
+        check_refused(&rt, after::<8, 4>(&rt, &[Step::Crash(0)]), Step::Send(0), 9);
+        check_refused(&rt, after::<8, 4>(&rt, &[Step::Send(0)]), Step::Send(0), 10);
+        check_refused(&rt, after::<8, 4>(&rt, &[]), Step::Turn(0), 11);
+        check_refused(&rt, after::<8, 4>(&rt, &EARLY), Step::Deliver(0), 12);
+        check_refused(&rt, after::<3, 4>(&rt, &[Step::Send(0)]), Step::Send(1), 13);
+        check_refused(
+            &rt,
+            after::<2, 4>(&rt, &[Step::Send(0)]),
+            Step::Repeat(1),
+            13,
+        );
+        check_refused(&rt, after::<2, 0>(&rt, &[Step::Send(0)]), Step::Turn(0), 14);
     }
 
     // The word at a place of the book after the calls.
     fn check_entry(rt: &impl Abort, calls: &[Step], place: usize, word: u64) {
-        let bench = after(rt, 8, 4, calls);
+        let bench = after::<8, 4>(rt, calls);
         assert!(rt; place < 4);
         assert_eq!(rt; bench.book[place], word);
     }
@@ -265,26 +247,25 @@ mod tests {
             Step::Deliver(3),
             Step::Turn(1),
         ];
-        assert_eq!(rt; seen(&after(&rt, 8, 4, &calls), 1), Some((0, 1, None)));
+        let mut bench = after::<8, 4>(&rt, &calls);
+        assert_eq!(rt; look(&bench, 1), sight(Stand::Fresh, 1));
         check_entry(&rt, &calls, 2, 0x1000_0000_0000_0000);
-        let (refused, sent) = step(after(&rt, 8, 4, &calls), Step::Send(1));
-        assert_eq!(rt; refused, 0);
-        let (refused, turned) = step(sent, Step::Turn(1));
-        assert_eq!(rt; refused, 0);
-        assert_eq!(rt; turned.book[3], 0x1001_8000_0000_0000);
+        assert_eq!(rt; step(&mut bench, Step::Send(1)), None);
+        assert_eq!(rt; step(&mut bench, Step::Turn(1)), None);
+        assert_eq!(rt; bench.book[3], 0x1001_8000_0000_0000);
     }
 
     #[test]
     fn every_stand_is_seen(rt: HostRuntime) {
-        let fresh = after(&rt, 8, 4, &[]);
-        assert_eq!(rt; seen(&fresh, 0), Some((0, 0, None)));
-        assert_eq!(rt; seen(&fresh, 2), None);
-        assert_eq!(rt; seen(&after(&rt, 8, 4, &EARLY), 0), Some((1, 1, None)));
-        let (refused, down) = step(after(&rt, 8, 4, &EARLY), Step::Crash(0));
-        assert_eq!(rt; refused, 0);
-        assert_eq!(rt; seen(&down, 0), Some((2, 1, None)));
-        assert_eq!(rt; seen(&down, 1), Some((1, 0, None)));
-        assert_eq!(rt; seen(&shut(8, 4), 0), None);
+        let fresh = after::<8, 4>(&rt, &[]);
+        assert_eq!(rt; look(&fresh, 0), sight(Stand::Fresh, 0));
+        assert_eq!(rt; look(&fresh, 2), Err(Refusal::NoSuchStation));
+        let mut ahead = after::<8, 4>(&rt, &EARLY);
+        assert_eq!(rt; look(&ahead, 0), sight(Stand::Listening, 1));
+        assert_eq!(rt; step(&mut ahead, Step::Crash(0)), None);
+        assert_eq!(rt; look(&ahead, 0), sight(Stand::Down, 1));
+        assert_eq!(rt; look(&ahead, 1), sight(Stand::Listening, 0));
+        assert_eq!(rt; look(&shut::<8, 4>(), 0), Err(Refusal::Shut));
     }
 
     const FROM_0: [u64; 2] = [0x0000_0000_9000_0000, 0x0100_0000_9000_0000];
@@ -293,10 +274,8 @@ mod tests {
 
     // The pool's first four words after a frame is dropped.
     fn check_pool(rt: &impl Abort, calls: &[Step], words: [u64; 4]) {
-        let bench = after(rt, 8, 4, calls);
-        let all = &bench.pool[..];
-        assert!(rt; all.len() == 8);
-        assert_eq!(rt; [all[0], all[1], all[2], all[3]], words);
+        let bench = after::<8, 4>(rt, calls);
+        assert_eq!(rt; &bench.pool[..4], words.as_slice());
     }
 
     #[test]
@@ -318,38 +297,44 @@ mod tests {
         check_pool(&rt, &[Step::Send(0), Step::Drop(1), Step::Drop(0)], [0; 4]);
     }
 
-    // 1, 2 or 3 for what the pool refuses, and 0 where it does not.
-    fn pool_number(refusal: Option<PoolRefusal>) -> u8 {
-        match refusal {
-            None => 0,
-            Some(PoolRefusal::NoSuchPlace) => 1,
-            Some(PoolRefusal::Unreadable) => 2,
-            Some(PoolRefusal::Full) => 3,
-        }
-    }
-
-    // A pool of two words refuses, and keeps them.
-    fn check_pool_refusals(rt: &impl Abort, count: usize, place: usize, taken: u8, copied: u8) {
+    // A pool of two words has no such place, for taking out and for repeating, and keeps them.
+    fn check_no_such_place(rt: &impl Abort, count: usize, place: usize) {
         let mut pool = FROM_0;
-        assert_eq!(rt; pool_number(take_out(&mut pool, count, place).err()), taken);
+        assert_eq!(rt;
+            take_out(&mut pool, count, place),
+            Err(PoolRefusal::NoSuchPlace)
+        );
         assert_eq!(rt; pool, FROM_0);
-        assert_eq!(rt; pool_number(repeat(&mut pool, count, place).err()), copied);
+        assert_eq!(rt;
+            repeat(&mut pool, count, place),
+            Err(PoolRefusal::NoSuchPlace)
+        );
         assert_eq!(rt; pool, FROM_0);
     }
 
     #[test]
     fn pool_refusals(rt: HostRuntime) {
-        check_pool_refusals(&rt, 0, 0, 1, 1);
-        check_pool_refusals(&rt, 2, 2, 1, 1);
-        check_pool_refusals(&rt, 3, 0, 1, 1);
+        check_no_such_place(&rt, 0, 0);
+        check_no_such_place(&rt, 2, 2);
+        check_no_such_place(&rt, 3, 0);
         let mut pool = FROM_0;
-        assert_eq!(rt; pool_number(repeat(&mut pool, 2, 0).err()), 3);
-        assert_eq!(rt; pool_number(add(&mut pool, 1, &FROM_1).err()), 3);
-        assert_eq!(rt; pool_number(add(&mut pool, 3, &[]).err()), 3);
+        assert_eq!(rt; repeat(&mut pool, 2, 0), Err(PoolRefusal::Full));
+        assert_eq!(rt; add(&mut pool, 1, &FROM_1), Err(PoolRefusal::Full));
+        assert_eq!(rt; add(&mut pool, 3, &[]), Err(PoolRefusal::Full));
         assert_eq!(rt; pool, FROM_0);
-        assert_eq!(rt; pool_number(frame_at(&Third, 2, &pool, 2, 2).err()), 1);
-        assert_eq!(rt; pool_number(frame_at(&Third, 2, &pool, 3, 0).err()), 1);
-        assert_eq!(rt; pool_number(frame_at(&Third, 1, &pool, 2, 1).err()), 2);
-        assert_eq!(rt; pool_number(frame_at(&Third, 2, &pool, 2, 1).err()), 0);
+        assert_eq!(rt;
+            frame_at(&Third, 2, &pool, 2, 2),
+            Err(PoolRefusal::NoSuchPlace)
+        );
+        assert_eq!(rt;
+            frame_at(&Third, 2, &pool, 3, 0),
+            Err(PoolRefusal::NoSuchPlace)
+        );
+        assert_eq!(rt;
+            frame_at(&Third, 1, &pool, 2, 1),
+            Err(PoolRefusal::Unreadable)
+        );
+        let letter = Letter { value: 9 };
+        assert_eq!(rt; frame_at(&Third, 2, &pool, 2, 1), Ok((0, 1, 0, letter)));
     }
 }

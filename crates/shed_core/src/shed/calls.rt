@@ -1,8 +1,9 @@
 // The calls that read and write no letter cell: drop, repeat, crash and look.
 ghost use Rattle.std.specs.Prelude.{◌≡◌};
-ghost use Rattle.shed_core.specs.Of.{world, ComesTo};
+ghost use Rattle.shed_core.specs.Of.{world, world_of, ComesTo, StillLent};
 ghost use Rattle.protocol.specs.Calls.{drop_call, repeat_call, crash_call, look_call};
 
+use crate::buffers::Buffers;
 use crate::shed::Shed;
 use frames::pool::{repeat, take_out};
 use protocol::refusal::Refusal;
@@ -14,19 +15,15 @@ impl Shed {
     pub fn drop<R: Rule>(
         &mut self,
         rule: &R,
-        states: &mut [R::State],
-        letters: &mut [R::Letter],
-        pool: &mut [u64],
-        book: &mut [u64],
+        buffers: &mut Buffers<'_, R::State, R::Letter>,
         k: usize,
     ) -> Result<usize, Refusal>
-        ensures { ComesTo result
-            (world self.new states.new letters.new pool.new book.new)
-            (drop_call (R.Rule.behaviour rule.now)
-            (world self.old states.old letters.old pool.old book.old) k) }
+        ensures call { ComesTo result (world_of self.new buffers.new)
+            (drop_call (R.Rule.behaviour rule.now) (world_of self.old buffers.old) k) }
+        ensures lent { StillLent buffers.old buffers.new }
     {
-        self.ready(rule, states, letters, pool, book)?;
-        self.frames = take_out(pool, self.frames, k)?;
+        self.ready(buffers)?;
+        self.frames = take_out(buffers.pool, self.frames, k)?;
         Ok(0)
     }
 
@@ -34,19 +31,15 @@ impl Shed {
     pub fn repeat<R: Rule>(
         &mut self,
         rule: &R,
-        states: &mut [R::State],
-        letters: &mut [R::Letter],
-        pool: &mut [u64],
-        book: &mut [u64],
+        buffers: &mut Buffers<'_, R::State, R::Letter>,
         k: usize,
     ) -> Result<usize, Refusal>
-        ensures { ComesTo result
-            (world self.new states.new letters.new pool.new book.new)
-            (repeat_call (R.Rule.behaviour rule.now)
-            (world self.old states.old letters.old pool.old book.old) k) }
+        ensures call { ComesTo result (world_of self.new buffers.new)
+            (repeat_call (R.Rule.behaviour rule.now) (world_of self.old buffers.old) k) }
+        ensures lent { StillLent buffers.old buffers.new }
     {
-        self.ready(rule, states, letters, pool, book)?;
-        let place = repeat(pool, self.frames, k)?;
+        self.ready(buffers)?;
+        let place = repeat(buffers.pool, self.frames, k)?;
         self.frames = place + 1;
         Ok(place)
     }
@@ -55,25 +48,22 @@ impl Shed {
     pub fn crash<R: Rule>(
         &mut self,
         rule: &R,
-        states: &mut [R::State],
-        letters: &mut [R::Letter],
-        pool: &mut [u64],
-        book: &mut [u64],
+        buffers: &mut Buffers<'_, R::State, R::Letter>,
         p: usize,
     ) -> Result<usize, Refusal>
-        ensures { ComesTo result
-            (world self.new states.new letters.new pool.new book.new)
-            (crash_call (R.Rule.behaviour rule.now)
-            (world self.old states.old letters.old pool.old book.old) p) }
+        ensures call { ComesTo result (world_of self.new buffers.new)
+            (crash_call (R.Rule.behaviour rule.now) (world_of self.old buffers.old) p) }
+        ensures lent { StillLent buffers.old buffers.new }
     {
-        self.ready(rule, states, letters, pool, book)?;
+        self.ready(buffers)?;
         let mut station = self.standing(p)?;
         station.stand = Stand::Down;
         self.table.change(p, station);
         Ok(0)
     }
 
-    // What station p shows: its stand, its round, and its hull or none.
+    // What station p shows: its stand, its round, and its hull or none. The buffers are lent one by one, as whoever only
+    // looks may share them.
     pub fn look<R: Rule>(
         &self,
         rule: &R,
@@ -83,12 +73,11 @@ impl Shed {
         book: &[u64],
         p: usize,
     ) -> Result<Sight, Refusal>
-        ensures { ComesTo result
-            (world self.now states.now letters.now pool.now book.now)
+        ensures { ComesTo result (world self.now states.now letters.now pool.now book.now)
             (look_call (R.Rule.behaviour rule.now)
             (world self.now states.now letters.now pool.now book.now) p) }
     {
-        self.ready(rule, states, letters, pool, book)?;
+        self.fits(states.len(), letters.len(), pool.len(), book.len())?;
         let station = self.station(p)?;
         Ok(Sight {
             stand: station.stand,

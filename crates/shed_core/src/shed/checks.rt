@@ -1,35 +1,58 @@
 // What the calls ask for before they act.
-ghost use Rattle.shed_core.specs.Checks.{Checked, readiness, record_of, station_tests, standing_tests, speaker_tests, turner_tests};
-ghost use Rattle.shed_core.specs.Of.{world};
+ghost use Rattle.std.specs.Prelude.{[], ◌∷◌, length};
+ghost use Rattle.shed_core.specs.Checks.{Checked, is_in, fit_tests, record_of, station_tests, standing_tests, speaker_tests, turner_tests};
 
+use crate::buffers::Buffers;
 use crate::shed::Shed;
 use protocol::refusal::Refusal;
 use protocol::types::{Record, Stand};
-use rules::{LAST_ROUND, Rule};
+use rules::LAST_ROUND;
+
+// The station's record, unless the station is in the stand.
+fn not_in(stand: Stand, station: Record, refusal: Refusal) -> Result<Record, Refusal>
+    ensures { Checked ((is_in stand station.stand, refusal) ∷ []) station result }
+{
+    if station.stand == stand {
+        return Err(refusal);
+    }
+    Ok(station)
+}
 
 impl Shed {
-    // The shed is open; no buffer is too short, and the pool and the book have the lengths that they had at opening.
-    pub(super) fn ready<R: Rule>(
+    // The shed is open; none of four buffers of these lengths is too short, and the pool and the book have the lengths
+    // that they had at opening.
+    pub(super) fn fits(
         &self,
-        rule: &R,
-        states: &[R::State],
-        letters: &[R::Letter],
-        pool: &[u64],
-        book: &[u64],
+        states: usize,
+        letters: usize,
+        pool: usize,
+        book: usize,
     ) -> Result<(), Refusal>
-        ensures { Checked (readiness (R.Rule.behaviour rule.now)
-            (world self.now states.now letters.now pool.now book.now)) tt result }
+        ensures { Checked (fit_tests self.now states letters pool book) tt result }
     {
         if self.count == 0 {
             return Err(Refusal::Shut);
         }
-        if states.len() < self.count || letters.len() < self.count * (self.count + 1) {
+        if states < self.count || letters < self.count * (self.count + 1) {
             return Err(Refusal::BufferMismatch);
         }
-        if pool.len() != self.pool_len || book.len() != self.book_len {
+        if pool != self.pool_len || book != self.book_len {
             return Err(Refusal::BufferMismatch);
         }
         Ok(())
+    }
+
+    // The shed is open, and the buffers fit it.
+    pub(super) fn ready<S, L>(&self, buffers: &Buffers<'_, S, L>) -> Result<(), Refusal>
+        ensures { Checked (fit_tests self.now (length buffers.now.states.now) (length buffers.now.letters.now)
+            (length buffers.now.pool.now) (length buffers.now.book.now)) tt result }
+    {
+        self.fits(
+            buffers.states.len(),
+            buffers.letters.len(),
+            buffers.pool.len(),
+            buffers.book.len(),
+        )
     }
 
     // The record of station p.
@@ -46,32 +69,21 @@ impl Shed {
     pub(super) fn standing(&self, p: usize) -> Result<Record, Refusal>
         ensures { Checked (standing_tests self.now.count p (record_of self.now p)) (record_of self.now p) result }
     {
-        let station = self.station(p)?;
-        match station.stand {
-            Stand::Down => Err(Refusal::StationDown),
-            Stand::Fresh | Stand::Listening => Ok(station),
-        }
+        not_in(Stand::Down, self.station(p)?, Refusal::StationDown)
     }
 
     // The record of station p, which may send.
     pub(super) fn speaker(&self, p: usize) -> Result<Record, Refusal>
         ensures { Checked (speaker_tests self.now.count p (record_of self.now p)) (record_of self.now p) result }
     {
-        let station = self.standing(p)?;
-        match station.stand {
-            Stand::Listening => Err(Refusal::AlreadySent),
-            Stand::Fresh | Stand::Down => Ok(station),
-        }
+        not_in(Stand::Listening, self.standing(p)?, Refusal::AlreadySent)
     }
 
     // The record of station p, which may turn.
     pub(super) fn turner(&self, p: usize) -> Result<Record, Refusal>
         ensures { Checked (turner_tests self.now.count p (record_of self.now p) self.now.entries self.now.book_len) (record_of self.now p) result }
     {
-        let station = self.standing(p)?;
-        if let Stand::Fresh = station.stand {
-            return Err(Refusal::NotListening);
-        }
+        let station = not_in(Stand::Fresh, self.standing(p)?, Refusal::NotListening)?;
         if self.entries == self.book_len {
             return Err(Refusal::BookFull);
         }

@@ -1,8 +1,9 @@
 // A new shed, and its opening.
-ghost use Rattle.std.specs.Prelude.{◌≡◌};
-ghost use Rattle.shed_core.specs.Of.{world, ComesTo, New};
+ghost use Rattle.std.specs.Prelude.{◌≡◌, Some, None, MatchResult};
+ghost use Rattle.shed_core.specs.Of.{world_of, ComesTo, StillLent, New};
 ghost use Rattle.protocol.specs.Calls.{open_refusal, open_call};
 
+use crate::buffers::Buffers;
 use crate::shed::Shed;
 use crate::table::Table;
 use frames::pool::clear;
@@ -29,60 +30,53 @@ impl Shed {
         }
     }
 
-    // What makes the shed refuse to open.
-    fn open_refusal<R: Rule>(
+    // Whether the shed opens on the buffers with the values.
+    fn openable<R: Rule>(
         &self,
         rule: &R,
-        states: &[R::State],
-        letters: &[R::Letter],
-        pool: &[u64],
-        book: &[u64],
+        buffers: &Buffers<'_, R::State, R::Letter>,
         values: &[u16],
-    ) -> Option<Refusal>
-        ensures { result ≡ open_refusal (R.Rule.behaviour rule.now)
-            (world self.now states.now letters.now pool.now book.now) values.now }
+    ) -> Result<(), Refusal>
+        ensures { MatchResult result
+            (λ _. open_refusal (R.Rule.behaviour rule.now) (world_of self.now buffers.now) values.now ≡ None)
+            (λ f. open_refusal (R.Rule.behaviour rule.now) (world_of self.now buffers.now) values.now ≡ Some f) }
     {
         let n = values.len();
         if self.count != 0 {
-            return Some(Refusal::AlreadyOpen);
+            return Err(Refusal::AlreadyOpen);
         }
         if n == 0 || n > rule.most() {
-            return Some(Refusal::ValueCount);
+            return Err(Refusal::ValueCount);
         }
-        if pool.len() == 0 || pool.len() > MAX_POOL || book.len() > MAX_BOOK {
-            return Some(Refusal::BufferSize);
+        let pool = buffers.pool.len();
+        if pool == 0 || pool > MAX_POOL || buffers.book.len() > MAX_BOOK {
+            return Err(Refusal::BufferSize);
         }
-        if states.len() < n || letters.len() < n * (n + 1) {
-            return Some(Refusal::BufferMismatch);
+        if buffers.states.len() < n || buffers.letters.len() < n * (n + 1) {
+            return Err(Refusal::BufferMismatch);
         }
-        None
+        Ok(())
     }
 
     // Opens the shed for as many stations as there are opening values; answers their number.
     pub fn open<R: Rule>(
         &mut self,
         rule: &R,
-        states: &mut [R::State],
-        letters: &mut [R::Letter],
-        pool: &mut [u64],
-        book: &mut [u64],
+        buffers: &mut Buffers<'_, R::State, R::Letter>,
         values: &[u16],
     ) -> Result<usize, Refusal>
-        ensures { ComesTo result
-            (world self.new states.new letters.new pool.new book.new)
-            (open_call (R.Rule.behaviour rule.now)
-            (world self.old states.old letters.old pool.old book.old) values.now) }
+        ensures call { ComesTo result (world_of self.new buffers.new)
+            (open_call (R.Rule.behaviour rule.now) (world_of self.old buffers.old) values.now) }
+        ensures lent { StillLent buffers.old buffers.new }
     {
-        if let Some(refusal) = self.open_refusal(rule, states, letters, pool, book, values) {
-            return Err(refusal);
-        }
-        first_states(rule, values, states);
-        clear(pool);
-        clear(book);
+        self.openable(rule, buffers, values)?;
+        first_states(rule, values, buffers.states);
+        clear(buffers.pool);
+        clear(buffers.book);
         *self = Shed {
             count: values.len(),
-            pool_len: pool.len(),
-            book_len: book.len(),
+            pool_len: buffers.pool.len(),
+            book_len: buffers.book.len(),
             frames: 0,
             entries: 0,
             table: Table::new(),

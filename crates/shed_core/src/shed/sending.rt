@@ -1,52 +1,59 @@
 // A station writes its letters.
-ghost use Rattle.std.specs.Prelude.{◌≡◌, ◌+◌, ◌*◌, ◌<◌, ◌≤◌, length, get_or, take, IfSome, slice_index_or, slice_set};
+ghost use Rattle.std.specs.Prelude.{◌≡◌, ◌<◌, ◌≤◌, get_or, IfSome, slice_index_or, slice_set};
 ghost use Rattle.protocol.specs.World.{blank};
-ghost use Rattle.shed_core.specs.Of.{world, ComesTo, SameCounts};
+ghost use Rattle.shed_core.specs.Of.{world_of, ComesTo, StillLent, SameCounts};
 ghost use Rattle.protocol.specs.Calls.{frames_from, send_call, cell, copied, due, listened, taken_in};
 
+use crate::buffers::Buffers;
 use crate::shed::Shed;
+use arrayvec::ArrayVec;
 use frames::frame::pack_frame;
 use frames::pool::add;
 use protocol::refusal::Refusal;
 use protocol::types::Stand;
 use rules::Rule;
 
-// The frames of the letters that station p writes to the n stations, by rising receiver, and how many they are.
-fn gather<R: Rule>(rule: &R, n: usize, p: usize, round: u16, state: &R::State) -> ([u64; 16], usize)
-    requires { (n ≤ 16) × ((p < n) × (round ≤ 4095)) }
-    ensures words { take result.1 result.0 ≡ frames_from (R.Rule.behaviour rule.now) n p round state.now 0 n }
-    ensures few { result.1 ≤ n }
-    ensures len { length result.0 ≡ 16 }
+// Writes a letter into a cell, if there is one.
+pub(super) fn store<L: Copy>(letters: &mut [L], at: usize, letter: L)
+    ensures { letters.new ≡ slice_set letters.old at letter }
 {
-    let mut words = [0; 16];
-    let mut count = 0;
-    for q in 0..n {
-        if let Some(letter) = rule.letter(n, p, round, state, q) {
-            words[count] = pack_frame(rule, p, q, round, &letter).unwrap();
-            count += 1;
-        }
+    if at < letters.len() {
+        letters[at] = letter;
     }
-    (words, count)
-}
-
-// The cell of the letter that station p has from q, or, with q = n, of the letter that it holds.
-pub(super) fn cell_of(n: usize, p: usize, q: usize) -> usize
-    requires { (n ≤ 16) × ((p < n) × (q ≤ n)) }
-    ensures place { result ≡ cell n p q }
-    ensures within { result < n * (n + 1) }
-{
-    p * (n + 1) + q
 }
 
 // Copies the letter of one cell into another.
 fn copy_letter<L: Copy>(letters: &mut [L], from: usize, to: usize)
-    requires { (from < length letters.old) × (to < length letters.old) }
     ensures { letters.new ≡ copied letters.old from to }
 {
-    letters[to] = letters[from];
+    if let Some(letter) = letters.get(from).copied() {
+        store(letters, to, letter);
+    }
 }
 
 impl Shed {
+    // The cell of the letter that station p has from q, or, with q = n, of the letter that it holds.
+    pub(super) fn cell(&self, p: usize, q: usize) -> usize
+        requires { (p < self.now.count) × (q ≤ self.now.count) }
+        ensures { result ≡ cell self.now.count p q }
+    {
+        p * (self.count + 1) + q
+    }
+
+    // The frames of the letters that station p writes in a round, by rising receiver.
+    fn gather<R: Rule>(&self, rule: &R, p: usize, round: u16, state: &R::State) -> ArrayVec<u64, 16>
+        requires { (p < self.now.count) × (round ≤ 4095) }
+        ensures { result.items ≡ frames_from (R.Rule.behaviour rule.now) self.now.count p round state.now 0 self.now.count }
+    {
+        let mut frames = ArrayVec::new();
+        for q in 0..self.count {
+            if let Some(letter) = rule.letter(self.count, p, round, state, q) {
+                frames.push(pack_frame(rule, p, q, round, &letter).unwrap());
+            }
+        }
+        frames
+    }
+
     // The sender of a letter that station p holds for its own round.
     fn due_sender(&self, p: usize) -> Option<usize>
         ensures sender { result ≡ due (get_or self.now.table.records p blank).hold (get_or self.now.table.records p blank).round }
@@ -63,7 +70,7 @@ impl Shed {
 
     // Station p listens. A held letter of its own round moves into its sender's cell, and the sender is heard.
     fn listen<L: Copy>(&mut self, letters: &mut [L], p: usize)
-        requires { (p < self.old.count) × (self.old.count * (self.old.count + 1) ≤ length letters.old) }
+        requires { p < self.old.count }
         ensures counts { SameCounts self.old self.new }
         ensures table { self.new.table.records ≡ slice_set self.old.table.records p
             (listened (slice_index_or self.old.table.records p blank)
@@ -74,8 +81,8 @@ impl Shed {
     {
         let mut station = self.table.record(p);
         if let Some(sender) = self.due_sender(p) {
-            let held = cell_of(self.count, p, self.count);
-            copy_letter(letters, held, cell_of(self.count, p, sender));
+            let held = self.cell(p, self.count);
+            copy_letter(letters, held, self.cell(p, sender));
             station.heard[sender] = true;
             station.hold = None;
         }
@@ -87,23 +94,18 @@ impl Shed {
     pub fn send<R: Rule>(
         &mut self,
         rule: &R,
-        states: &mut [R::State],
-        letters: &mut [R::Letter],
-        pool: &mut [u64],
-        book: &mut [u64],
+        buffers: &mut Buffers<'_, R::State, R::Letter>,
         p: usize,
     ) -> Result<usize, Refusal>
-        ensures { ComesTo result
-            (world self.new states.new letters.new pool.new book.new)
-            (send_call (R.Rule.behaviour rule.now)
-            (world self.old states.old letters.old pool.old book.old) p) }
+        ensures call { ComesTo result (world_of self.new buffers.new)
+            (send_call (R.Rule.behaviour rule.now) (world_of self.old buffers.old) p) }
+        ensures lent { StillLent buffers.old buffers.new }
     {
-        self.ready(rule, states, letters, pool, book)?;
+        self.ready(buffers)?;
         let round = self.speaker(p)?.round;
-        let (words, count) = gather(rule, self.count, p, round, &states[p]);
-        let all = &words[..];
-        self.frames = add(pool, self.frames, &all[0..count])?;
-        self.listen(letters, p);
-        Ok(count)
+        let frames = self.gather(rule, p, round, &buffers.states[p]);
+        self.frames = add(buffers.pool, self.frames, frames.as_slice())?;
+        self.listen(buffers.letters, p);
+        Ok(frames.len())
     }
 }

@@ -20,11 +20,11 @@ returns-in-Ok c =
       safely = IfOk-weaker c.play.result (λ v. Plays p (vec_items v)) (λ v. PrintedSafely text (vec_items v)) (λ v. safe_plan text (vec_items v) p read) c.play.ensures;
     }
 
-pub returns-in-Faulty : goal.returns-in-Faulty
-returns-in-Faulty c =
+pub returns-in-Err-Refused : goal.returns-in-Err-Refused
+returns-in-Err-Refused c =
     let text = c.args.text.now in
-    let f = c.in-Faulty.fault in
-    let read = subst (λ e. Reads text (Err e)) c.in-Faulty.is c.in-Err.ensures.reads in
+    let f = c.in-Err-Refused.fault in
+    let read = subst (λ e. Reads text (Err e)) c.in-Err-Refused.field-0-is c.in-Err-Refused.ensures.reads in
     record {
       prints = IfOk-weaker c.fault_listing.result (λ v. vec_items v ≡ fault_listing_text f) (λ v. vec_items v ≡ printed text) (λ v. prints_fault text (vec_items v) f read) c.fault_listing.ensures;
       safely = IfOk-weaker c.fault_listing.result (λ v. vec_items v ≡ fault_listing_text f) (λ v. PrintedSafely text (vec_items v)) (λ v. safe_fault text (vec_items v) f read) c.fault_listing.ensures;

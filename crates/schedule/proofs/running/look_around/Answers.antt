@@ -1,7 +1,7 @@
 use Rattle.std.proofs.Common.{vec_items}
 use Rattle.std.proofs.lemmas.Result.{err_from_is_err_and}
 use Rattle.protocol.specs.Calls.{look_refusal}
-use Rattle.shed_core.specs.Of.{world}
+use Rattle.shed_core.specs.Of.{world_of}
 use Rattle.schedule.specs.Program.{sight}
 use Rattle.schedule.proofs.Played.{granted, denied, one_more_sight}
 use Rattle.schedule.proofs.running.look_around.Goals as goal
@@ -9,7 +9,7 @@ use Rattle.schedule.proofs.running.look_around.Goals as goal
 pub returns-in_err-sight : goal.returns-in_err-sight
 returns-in_err-sight g c =
     let R = g.R.Rule.behaviour c.args.rule.now in
-    let w = world c.args.shed.now c.args.states.now c.args.letters.now c.args.pool.now c.args.book.now in
+    let w = world_of c.args.shed.now c.args.buffers.now in
     let p = err_from_is_err_and c.from_residual.result c.from_residual.ensures.1 in
     let station = c.loop-station.station in
     rw (p.1, p.2) (station, c.loop-station-test.true, denied w (sight R w station) (look_refusal R w station) c.in_err-sight.field-0.0 c.in_err-sight.ensures.answers)
@@ -17,7 +17,7 @@ returns-in_err-sight g c =
 pub loop-station-preserved : goal.loop-station-preserved
 loop-station-preserved g c =
     let R = g.R.Rule.behaviour c.args.rule.now in
-    let w = world c.args.shed.now c.args.states.now c.args.letters.now c.args.pool.now c.args.book.now in
+    let w = world_of c.args.shed.now c.args.buffers.now in
     let p = c.loop-station.station in
     let seen = granted w (sight R w p) (look_refusal R w p) c.in_ok-sight.sight c.in_ok-sight.ensures.answers in
-    one_more_sight R w p (vec_items c.loop-station.sights) (vec_items c.add_sight.new.sights) c.in_ok-sight.sight c.loop-station.invariant seen c.in_ok-add_sight.ensures
+    one_more_sight R w p (vec_items c.loop-station.sights) _ c.in_ok-sight.sight c.loop-station.invariant seen c.in_ok-push.ensures.items

@@ -1,57 +1,47 @@
-use Rattle.std.proofs.Common.{◌-◌, length, take, vec_items, ap, ◌∙◌, arith}
-use native.Mathlib.Nat.{sub-zero}
+use Rattle.std.proofs.Common.{length, take, vec_items, ap, ◌∙◌, arith}
 use Rattle.std.proofs.lemmas.List.{length-take}
-use Rattle.rules.proofs.Tables.{length_tabulate}
-use Rattle.shed_core.specs.Of.{world}
 use Rattle.std.proofs.lemmas.Result.{err_from_is_err_and}
+use Rattle.rules.proofs.Tables.{length_tabulate}
 use Rattle.protocol.specs.World.{shut}
+use Rattle.shed_core.specs.Of.{world_of}
 use Rattle.schedule.specs.Program.{refused_from, sight}
 use Rattle.schedule.specs.Printing.{listing_text}
-use Rattle.schedule.proofs.Listed.{not_seen, within, few, book_few, lists}
+use Rattle.schedule.proofs.Listed.{not_seen, few, book_few, lists}
 use Rattle.schedule.proofs.running.run.Goals as goal
 
-pub returns-in_err-sights : goal.returns-in_err-sights
-returns-in_err-sights g c =
+pub returns-in_err-stations : goal.returns-in_err-stations
+returns-in_err-stations g c =
     let R = g.R.Rule.behaviour c.args.rule.now in
     let a = c.args in
-    let last = c.conduct.new in
-    let p = err_from_is_err_and c.from_residual-in_err-sights.result c.from_residual-in_err-sights.ensures.1 in
-    let out = not_seen R (shut a.states.now a.letters.now a.pool.now a.book.now) a.values.now a.steps.now c.in_ok-shed.shed (vec_items c.in_ok-shed.refusals)
-    last.states last.letters last.pool last.book c.in_ok-shed.ensures c.in_err-sights.field-0.0 c.in_err-sights.ensures in
-    rw (p.1, p.2) out
+    let p = err_from_is_err_and c.from_residual-in_err-stations.result c.from_residual-in_err-stations.ensures.1 in
+    rw (p.1, p.2) (not_seen R (shut a.states.now a.letters.now a.pool.now a.book.now) a.values.now a.steps.now c.in_ok-shed.shed (vec_items c.in_ok-shed.refusals)
+    c.conduct.new.buffers c.in_ok-shed.ensures.conducted c.in_err-stations.field-0.0 c.in_err-stations.ensures)
 
-pub slice_bounds-written-end : goal.slice_bounds-written-end
-slice_bounds-written-end g c =
-    let R = g.R.Rule.behaviour c.args.rule.now in
-    let a = c.args in
-    let last = c.conduct.new in
-    let within = within R (shut a.states.now a.letters.now a.pool.now a.book.now) a.values.now a.steps.now c.in_ok-shed.shed (vec_items c.in_ok-shed.refusals)
-    last.states last.letters last.pool last.book c.in_ok-shed.ensures in
-    omega (arith, within, c.entries.ensures)
-
-pub listing-requires : goal.listing-requires
-listing-requires g c =
+pub invariant_of-report : goal.invariant_of-report
+invariant_of-report g c =
     let rule = c.args.rule.now in
     let R = g.R.Rule.behaviour rule in
     let a = c.args in
-    let last = c.conduct.new in
+    let left = c.conduct.new.buffers in
     let new = shut a.states.now a.letters.now a.pool.now a.book.now in
+    let shed = c.in_ok-shed.shed in
     let told = vec_items c.in_ok-shed.refusals in
-    let ran = c.in_ok-shed.ensures in
-    let few = few R new a.values.now a.steps.now c.in_ok-shed.shed told last.states last.letters last.pool last.book ran (g.met.R.Rule.interface rule) in
-    let book = book_few R new a.values.now a.steps.now c.in_ok-shed.shed told last.states last.letters last.pool last.book ran in
-    let seen = ap length (c.as_slice-3.ensures.value ∙ c.in_ok-sights.ensures) ∙ length_tabulate (length a.values.now) (sight R (world c.in_ok-shed.shed last.states last.letters last.pool last.book)) in
-    (omega (arith, few, seen), omega (arith, book, length-take (c.entries.result - 0) last.book))
+    let ran = c.in_ok-shed.ensures.conducted in
+    let seen = ap length c.in_ok-stations.ensures ∙ length_tabulate (length a.values.now) (sight R (world_of shed left)) in
+    record {
+      few = omega (arith, seen, few R new a.values.now a.steps.now shed told left ran (g.met.R.Rule.interface rule));
+      short = omega (arith, book_few R new a.values.now a.steps.now shed told left ran, length-take c.entries-entries.result left.book.now);
+    }
 
 pub returns : goal.returns
 returns g c =
     let R = g.R.Rule.behaviour c.args.rule.now in
     let a = c.args in
-    let last = c.conduct.new in
-    let new = shut a.states.now a.letters.now a.pool.now a.book.now in
-    let told = vec_items c.in_ok-shed.refusals in
-    lists R new a.values.now a.steps.now c.in_ok-shed.shed told last.states last.letters last.pool last.book c.in_ok-shed.ensures
-    c.as_slice-2.result.now c.as_slice-3.result.now _
-    (c.as_slice-2.ensures.value ∙ c.in_ok-refused.ensures ∙ ap (refused_from 3) c.as_slice.ensures.value)
-    (c.as_slice-3.ensures.value ∙ c.in_ok-sights.ensures)
-    (c.in_ok-listing.ensures ∙ ap (λ k. listing_text c.as_slice-2.result.now c.as_slice-3.result.now (take k last.book)) (sub-zero c.entries.result ∙ c.entries.ensures))
+    let left = c.conduct.new.buffers in
+    let refused = vec_items c.in_ok-refused.refused in
+    let stations = vec_items c.in_ok-stations.stations in
+    lists R (shut a.states.now a.letters.now a.pool.now a.book.now) a.values.now a.steps.now c.in_ok-shed.shed (vec_items c.in_ok-shed.refusals) left
+    c.in_ok-shed.ensures.conducted refused stations _
+    (c.in_ok-refused.ensures ∙ ap (refused_from 3) c.as_slice.ensures.value)
+    c.in_ok-stations.ensures
+    (c.in_ok-print.ensures ∙ ap (λ k. listing_text refused stations (take k left.book.now)) c.entries-entries.ensures)
