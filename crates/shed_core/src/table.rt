@@ -1,8 +1,8 @@
 // The stations' records.
-ghost use Rattle.std.specs.Prelude.{◌≡◌, ◌<◌, replicate, slice_index_or, slice_set};
-ghost use Rattle.protocol.specs.World.{blank, hearing, holding};
+ghost use Rattle.std.specs.Prelude.{◌≡◌, replicate, slice_index_or, slice_set};
+ghost use Rattle.protocol.specs.World.{blank};
 
-use protocol::types::{Held, Record, Stand};
+use protocol::types::{Record, Stand};
 
 // One record for each of sixteen stations; a shed with fewer uses the first.
 #[derive(Clone, Copy, Debug, PartialEq, Eq)]
@@ -44,26 +44,6 @@ impl Table {
     {
         if p < self.records.len() {
             self.records[p] = new;
-        }
-    }
-
-    // Station p heard q. This and the next write one field in place: a copy changed and given back, or a closure, would
-    // say the same at more length.
-    pub(crate) fn hear(&mut self, p: usize, q: usize)
-        requires { q < 16 }
-        ensures { self.new.records ≡ slice_set self.old.records p (hearing (slice_index_or self.old.records p blank) q) }
-    {
-        if p < self.records.len() {
-            self.records[p].heard[q] = true;
-        }
-    }
-
-    // Station p holds a letter.
-    pub(crate) fn hold(&mut self, p: usize, held: Held)
-        ensures { self.new.records ≡ slice_set self.old.records p (holding (slice_index_or self.old.records p blank) held) }
-    {
-        if p < self.records.len() {
-            self.records[p].hold = Some(held);
         }
     }
 }

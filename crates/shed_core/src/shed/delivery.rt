@@ -43,17 +43,19 @@ impl Shed {
         ensures row { letters.new ≡ received_letters self.old.count letters.old frame fate }
     {
         let (sender, receiver, round, letter) = frame;
+        let mut station = self.table.record(receiver);
         match fate {
-            Fate::Late | Fate::Again => {}
+            Fate::Late | Fate::Again => return,
             Fate::Taken => {
                 store(letters, self.cell(receiver, sender), letter);
-                self.table.hear(receiver, sender);
+                station.heard[sender] = true;
             }
             Fate::Early => {
                 store(letters, self.cell(receiver, self.count), letter);
-                self.table.hold(receiver, Held { sender, round });
+                station.hold = Some(Held { sender, round });
             }
         }
+        self.table.change(receiver, station);
     }
 
     // The frame at place k leaves the pool and meets its fate, which is the answer.
