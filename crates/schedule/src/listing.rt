@@ -1,5 +1,5 @@
 // The lines of the listing, by calls that cannot fail: of a `write!` into the cells of a line no contract says that it is Ok.
-ghost use Rattle.std.specs.Prelude.{◌≡◌, ◌+◌, ◌<◌, ◌≤◌, ◌++◌, length};
+ghost use Rattle.std.specs.Prelude.{◌≡◌, ◌+◌, ◌<◌, ◌≤◌, ◌++◌, length, decimal};
 ghost use Rattle.schedule.specs.Listing.{Holds, line_text, refusal_text, stand_text, hull_text, station_text, book_text, fault_text};
 
 use crate::line::Line;
@@ -7,18 +7,25 @@ use crate::types::Fault;
 use protocol::refusal::Refusal;
 use protocol::types::{Sight, Stand};
 
-// The line of a refused step.
+// A line of two words, each with a number after it.
 #[tactic(auto, using(crate::proofs::Filling::decimal_20))]
+fn two_numbers(first: &[u8], one: usize, second: &[u8], other: usize) -> Line
+    requires { length first.now + length second.now ≤ 24 }
+    ensures { Holds result (first.now ++ decimal one ++ second.now ++ decimal other) }
+{
+    let mut out = Line::blank();
+    out.word(first);
+    out.number(one);
+    out.word(second);
+    out.number(other);
+    out
+}
+
+// The line of a refused step.
 pub(crate) fn refusal_line(line: usize, refusal: Refusal) -> Line
     ensures { Holds result (refusal_text line refusal) }
 {
-    let told = refusal.number();
-    let mut out = Line::blank();
-    out.word(b"line ");
-    out.number(line);
-    out.word(b" refused ");
-    out.number(told as usize);
-    out
+    two_numbers(b"line ", line, b" refused ", refusal.number() as usize)
 }
 
 // Whether a station is up or down.
@@ -75,18 +82,9 @@ pub(crate) fn book_line(entries: usize) -> Line
     out
 }
 
-// The one line that is printed of a faulty schedule. It shares with a refusal's line that two numbers follow two words,
-// which one function of four parameters would say no plainer.
-#[tactic(auto, using(crate::proofs::Filling::decimal_20))]
+// The one line that is printed of a faulty schedule.
 pub(crate) fn fault_line(fault: Fault) -> Line
     ensures { Holds result (fault_text fault) }
 {
-    let told = fault.number();
-    let place = fault.line();
-    let mut out = Line::blank();
-    out.word(b"fault ");
-    out.number(told as usize);
-    out.word(b" line ");
-    out.number(place);
-    out
+    two_numbers(b"fault ", fault.number() as usize, b" line ", fault.line())
 }
