@@ -40,24 +40,17 @@ mod tests {
         }
     }
 
-    // Opens the shed with the values; its refusal or none.
-    fn open<const POOL: usize, const BOOK: usize>(
-        bench: &mut Bench<POOL, BOOK>,
-        values: &[u16],
-    ) -> Option<Refusal> {
-        let mut buffers = Buffers {
-            states: &mut bench.states,
-            letters: &mut bench.letters,
-            pool: &mut bench.pool,
-            book: &mut bench.book,
-        };
-        bench.shed.open(&Third, &mut buffers, values).err()
+    // What is done with a bench: its shed is opened with values, or makes a step.
+    #[derive(Clone, Copy)]
+    enum Act<'a> {
+        Open(&'a [u16]),
+        Make(Step),
     }
 
-    // Makes one step; its refusal or none.
-    fn step<const POOL: usize, const BOOK: usize>(
+    // The refusal of what is done, or none.
+    fn done_to<const POOL: usize, const BOOK: usize>(
         bench: &mut Bench<POOL, BOOK>,
-        call: Step,
+        what: Act<'_>,
     ) -> Option<Refusal> {
         let mut buffers = Buffers {
             states: &mut bench.states,
@@ -65,7 +58,10 @@ mod tests {
             pool: &mut bench.pool,
             book: &mut bench.book,
         };
-        take_step(&mut bench.shed, &Third, &mut buffers, call)
+        match what {
+            Act::Open(values) => bench.shed.open(&Third, &mut buffers, values).err(),
+            Act::Make(call) => take_step(&mut bench.shed, &Third, &mut buffers, call),
+        }
     }
 
     // A shed with the opening values 9 and 7 after some steps, of which none may be refused.
@@ -74,9 +70,9 @@ mod tests {
         calls: &[Step],
     ) -> Bench<POOL, BOOK> {
         let mut bench = shut();
-        assert_eq!(rt; open(&mut bench, &[9, 7]), None);
+        assert_eq!(rt; done_to(&mut bench, Act::Open(&[9, 7])), None);
         for call in calls {
-            assert_eq!(rt; step(&mut bench, *call), None);
+            assert_eq!(rt; done_to(&mut bench, Act::Make(*call)), None);
         }
         bench
     }
@@ -101,29 +97,15 @@ mod tests {
         Ok(Sight { stand, round, hull })
     }
 
-    // A step is refused with the number, and nothing changes. This and the next would be one function of a closure, but
-    // the check does not walk through a bound on a closure that names a const parameter.
+    // It is refused with the number, and nothing changes.
     fn check_refused<const POOL: usize, const BOOK: usize>(
         rt: &impl Abort,
         bench: Bench<POOL, BOOK>,
-        call: Step,
+        what: Act<'_>,
         number: u8,
     ) {
         let mut left = bench;
-        let refused = step(&mut left, call);
-        assert_eq!(rt; refused.map(|r| r.number()), Some(number));
-        assert_eq!(rt; left, bench);
-    }
-
-    // An opening is refused with the number, and nothing changes.
-    fn check_unopened<const POOL: usize, const BOOK: usize>(
-        rt: &impl Abort,
-        bench: Bench<POOL, BOOK>,
-        values: &[u16],
-        number: u8,
-    ) {
-        let mut left = bench;
-        let refused = open(&mut left, values);
+        let refused = done_to(&mut left, what);
         assert_eq!(rt; refused.map(|r| r.number()), Some(number));
         assert_eq!(rt; left, bench);
     }
@@ -144,16 +126,16 @@ mod tests {
 
     #[test]
     fn openings_refused(rt: HostRuntime) {
-        check_unopened(&rt, after::<8, 4>(&rt, &[]), &[9, 7], 2);
-        check_unopened(&rt, shut::<8, 4>(), &[], 3);
-        check_unopened(&rt, shut::<8, 4>(), &[1; 17], 3);
-        check_unopened(&rt, shut::<0, 4>(), &[9, 7], 4);
-        check_unopened(&rt, shut::<8, 4>(), &[1; 4], 5);
+        check_refused(&rt, after::<8, 4>(&rt, &[]), Act::Open(&[9, 7]), 2);
+        check_refused(&rt, shut::<8, 4>(), Act::Open(&[]), 3);
+        check_refused(&rt, shut::<8, 4>(), Act::Open(&[1; 17]), 3);
+        check_refused(&rt, shut::<0, 4>(), Act::Open(&[9, 7]), 4);
+        check_refused(&rt, shut::<8, 4>(), Act::Open(&[1; 4]), 5);
     }
 
     #[test]
     fn steps_refused(rt: HostRuntime) {
-        check_refused(&rt, shut::<8, 4>(), Step::Send(0), 1);
+        check_refused(&rt, shut::<8, 4>(), Act::Make(Step::Send(0)), 1);
         let Bench {
             shed,
             states,
@@ -168,24 +150,49 @@ mod tests {
             pool: [0, 0, 0, 0, 0, 0, 0, 4],
             book,
         };
-        check_refused(&rt, longer, Step::Turn(0), 5);
-        check_refused(&rt, after::<8, 4>(&rt, &[]), Step::Send(2), 6);
-        check_refused(&rt, after::<8, 4>(&rt, &[]), Step::Deliver(0), 7);
+        check_refused(&rt, longer, Act::Make(Step::Turn(0)), 5);
+        check_refused(&rt, after::<8, 4>(&rt, &[]), Act::Make(Step::Send(2)), 6);
+        check_refused(&rt, after::<8, 4>(&rt, &[]), Act::Make(Step::Deliver(0)), 7);
         let mut unreadable = after::<8, 4>(&rt, &BOTH_SENT);
         unreadable.pool[1] = 0x2000_0000_0000_0000;
-        check_refused(&rt, unreadable, Step::Deliver(1), 8);
-        check_refused(&rt, after::<8, 4>(&rt, &[Step::Crash(0)]), Step::Send(0), 9);
-        check_refused(&rt, after::<8, 4>(&rt, &[Step::Send(0)]), Step::Send(0), 10);
-        check_refused(&rt, after::<8, 4>(&rt, &[]), Step::Turn(0), 11);
-        check_refused(&rt, after::<8, 4>(&rt, &EARLY), Step::Deliver(0), 12);
-        check_refused(&rt, after::<3, 4>(&rt, &[Step::Send(0)]), Step::Send(1), 13);
+        check_refused(&rt, unreadable, Act::Make(Step::Deliver(1)), 8);
+        check_refused(
+            &rt,
+            after::<8, 4>(&rt, &[Step::Crash(0)]),
+            Act::Make(Step::Send(0)),
+            9,
+        );
+        check_refused(
+            &rt,
+            after::<8, 4>(&rt, &[Step::Send(0)]),
+            Act::Make(Step::Send(0)),
+            10,
+        );
+        check_refused(&rt, after::<8, 4>(&rt, &[]), Act::Make(Step::Turn(0)), 11);
+        check_refused(
+            &rt,
+            after::<8, 4>(&rt, &EARLY),
+            Act::Make(Step::Deliver(0)),
+            12,
+        );
+        check_refused(
+            &rt,
+            after::<3, 4>(&rt, &[Step::Send(0)]),
+            Act::Make(Step::Send(1)),
+            13,
+        );
         check_refused(
             &rt,
             after::<2, 4>(&rt, &[Step::Send(0)]),
-            Step::Repeat(1),
+            Act::Make(Step::Repeat(1)),
             13,
         );
-        check_refused(&rt, after::<2, 0>(&rt, &[Step::Send(0)]), Step::Turn(0), 14);
+        check_refused(
+            &rt,
+            after::<2, 0>(&rt, &[Step::Send(0)]),
+            Act::Make(Step::Turn(0)),
+            14,
+        );
     }
 
     // The word at a place of the book after the calls.
@@ -250,8 +257,8 @@ mod tests {
         let mut bench = after::<8, 4>(&rt, &calls);
         assert_eq!(rt; look(&bench, 1), sight(Stand::Fresh, 1));
         check_entry(&rt, &calls, 2, 0x1000_0000_0000_0000);
-        assert_eq!(rt; step(&mut bench, Step::Send(1)), None);
-        assert_eq!(rt; step(&mut bench, Step::Turn(1)), None);
+        assert_eq!(rt; done_to(&mut bench, Act::Make(Step::Send(1))), None);
+        assert_eq!(rt; done_to(&mut bench, Act::Make(Step::Turn(1))), None);
         assert_eq!(rt; bench.book[3], 0x1001_8000_0000_0000);
     }
 
@@ -262,7 +269,7 @@ mod tests {
         assert_eq!(rt; look(&fresh, 2), Err(Refusal::NoSuchStation));
         let mut ahead = after::<8, 4>(&rt, &EARLY);
         assert_eq!(rt; look(&ahead, 0), sight(Stand::Listening, 1));
-        assert_eq!(rt; step(&mut ahead, Step::Crash(0)), None);
+        assert_eq!(rt; done_to(&mut ahead, Act::Make(Step::Crash(0))), None);
         assert_eq!(rt; look(&ahead, 0), sight(Stand::Down, 1));
         assert_eq!(rt; look(&ahead, 1), sight(Stand::Listening, 0));
         assert_eq!(rt; look(&shut::<8, 4>(), 0), Err(Refusal::Shut));
