@@ -31,6 +31,7 @@ impl From<Refusal> for Halt<Refusal> {
     }
 }
 
+// One for each kind of want of memory, and none for every E, which would be two for an AllocError.
 impl<E> From<AllocError> for Halt<E> {
     ghost from_gives = { λ _ r. r ≡ NoMemory };
 

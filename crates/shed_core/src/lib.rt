@@ -2,5 +2,6 @@
 #![tactic(auto)]
 
 pub mod buffers;
+mod cells;
 pub mod shed;
 pub mod table;

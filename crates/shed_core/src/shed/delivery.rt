@@ -4,8 +4,8 @@ ghost use Rattle.shed_core.specs.Of.{world_of, ComesTo, StillLent, SameCounts};
 ghost use Rattle.protocol.specs.Calls.{deliver_call, judged, received_stations, received_letters};
 
 use crate::buffers::Buffers;
+use crate::cells::store;
 use crate::shed::Shed;
-use crate::shed::sending::store;
 use frames::pool::{frame_at, take_out};
 use protocol::refusal::Refusal;
 use protocol::types::{Fate, Held, Record, Stand};
@@ -43,19 +43,17 @@ impl Shed {
         ensures row { letters.new ≡ received_letters self.old.count letters.old frame fate }
     {
         let (sender, receiver, round, letter) = frame;
-        let mut station = self.table.record(receiver);
         match fate {
-            Fate::Late | Fate::Again => return,
+            Fate::Late | Fate::Again => {}
             Fate::Taken => {
                 store(letters, self.cell(receiver, sender), letter);
-                station.heard[sender] = true;
+                self.table.hear(receiver, sender);
             }
             Fate::Early => {
                 store(letters, self.cell(receiver, self.count), letter);
-                station.hold = Some(Held { sender, round });
+                self.table.hold(receiver, Held { sender, round });
             }
         }
-        self.table.change(receiver, station);
     }
 
     // The frame at place k leaves the pool and meets its fate, which is the answer.

@@ -5,6 +5,7 @@ ghost use Rattle.shed_core.specs.Of.{world_of, ComesTo, StillLent, SameCounts};
 ghost use Rattle.protocol.specs.Calls.{frames_from, send_call, cell, copied, due, listened, taken_in};
 
 use crate::buffers::Buffers;
+use crate::cells::store;
 use crate::shed::Shed;
 use arrayvec::ArrayVec;
 use frames::frame::pack_frame;
@@ -12,15 +13,6 @@ use frames::pool::add;
 use protocol::refusal::Refusal;
 use protocol::types::Stand;
 use rules::Rule;
-
-// Writes a letter into a cell, if there is one.
-pub(super) fn store<L: Copy>(letters: &mut [L], at: usize, letter: L)
-    ensures { letters.new ≡ slice_set letters.old at letter }
-{
-    if at < letters.len() {
-        letters[at] = letter;
-    }
-}
 
 // Copies the letter of one cell into another.
 fn copy_letter<L: Copy>(letters: &mut [L], from: usize, to: usize)
@@ -31,6 +23,7 @@ fn copy_letter<L: Copy>(letters: &mut [L], from: usize, to: usize)
     }
 }
 
+// A shed and one of its stations are no struct, which each call would make anew: what follows asks for a station below n.
 impl Shed {
     // The cell of the letter that station p has from q, or, with q = n, of the letter that it holds.
     pub(super) fn cell(&self, p: usize, q: usize) -> usize

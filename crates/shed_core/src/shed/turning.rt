@@ -31,7 +31,8 @@ impl Shed {
         }
     }
 
-    // Station p's mailbox: in its first n places what it heard of each station.
+    // Station p's mailbox: in its first n places what it heard of each station. An array, which asks for no memory; recount
+    // has one line like it for its own letters, and a function of both would say more than each.
     fn mailbox<S, L: Copy>(
         &self,
         buffers: &Buffers<'_, S, L>,
