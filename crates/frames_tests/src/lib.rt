@@ -7,7 +7,6 @@ mod tests {
     use frames::frame::{pack_frame, read_frame};
     use frames::index::Index;
     use last::Last;
-    use std::test::Fail;
     use third::Third;
 
     const SEVEN: third::Letter = third::Letter { value: 7 };
@@ -16,6 +15,14 @@ mod tests {
         value: 300,
         stamp: 1,
     };
+
+    // Of two words for station 1 in round 1 the first counts.
+    const WORDS: [u64; 4] = [
+        0x1001_4000_FFFF_FFFF,
+        0x1002_2000_0000_0000,
+        0x0001_1000_0000_0000,
+        0x1001_8000_0000_0000,
+    ];
 
     // A set of stations, as the heard bits of a word with nothing else.
     fn set(bits: u64) -> [bool; 16] {
@@ -43,13 +50,9 @@ mod tests {
     }
 
     #[test]
-    fn frames_read(rt: HostRuntime) -> Result<(), Fail> {
+    fn frames_read(rt: HostRuntime) {
         let word = 0x2000_4012_C002_0000;
-        let Some((sender, receiver, round, letter)) = read_frame(&Last, 3, word) else {
-            return Err(Fail::new("not readable"));
-        };
-        assert_eq!(rt; (sender, receiver, round), (2, 0, 4));
-        assert_eq!(rt; (letter.value, letter.stamp), (300, 1));
+        assert_eq!(rt; read_frame(&Last, 3, word), Some((2, 0, 4, STAMPED)));
         // sender 2 and receiver 1 of n stations, and a packed number that is no letter
         for (n, word) in [
             (2, 0x2000_4012_C002_0000),
@@ -61,13 +64,15 @@ mod tests {
             assert!(rt; read_frame(&Last, n, word).is_none());
         }
         assert!(rt; read_frame(&Third, 16, word).is_none());
-        Ok(())
     }
 
     #[test]
     fn entries(rt: HostRuntime) {
         let both = set(0xC000);
-        assert!(rt; both[0] && both[1] && !both[2] && !both[15]);
+        let mut wanted = [false; 16];
+        wanted[0] = true;
+        wanted[1] = true;
+        assert_eq!(rt; both, wanted);
         assert_eq!(rt; pack_entry(1, 1, &both), Some(0x1001_C000_0000_0000));
         assert_eq!(rt;
             pack_entry(15, 4095, &set(0x8001)),
@@ -75,19 +80,11 @@ mod tests {
         );
         assert_eq!(rt; pack_entry(16, 0, &both), None);
         assert_eq!(rt; pack_entry(0, 4096, &both), None);
-        let (station, round, heard) = read_entry(0xFABC_8001_1234_5678);
-        assert_eq!(rt; (station, round), (15, 0xABC));
-        assert_eq!(rt; heard, set(0x8001));
+        assert_eq!(rt; read_entry(0xFABC_8001_1234_5678), (15, 0xABC, set(0x8001)));
     }
 
     #[test]
     fn first_word_counts(rt: HostRuntime) {
-        let words = [
-            0x1001_4000_FFFF_FFFF,
-            0x1002_2000_0000_0000,
-            0x0001_1000_0000_0000,
-            0x1001_8000_0000_0000,
-        ];
         // station, round, and the bits of the senders
         let cases = [
             (1, 1, 0x4000),
@@ -98,10 +95,10 @@ mod tests {
             (16, 1, 0),
         ];
         for (station, round, bits) in cases {
-            let named = senders(&words, station, round);
+            let named = senders(&WORDS, station, round);
             assert_eq!(rt; named, set(bits));
             if station < 16 {
-                let all = heard_in_round(&words, round);
+                let all = heard_in_round(&WORDS, round);
                 assert_eq!(rt; all[station], named);
             }
         }
@@ -109,13 +106,7 @@ mod tests {
 
     #[test]
     fn index_names_first_words(rt: HostRuntime) {
-        let words = [
-            0x1001_4000_FFFF_FFFF,
-            0x1002_2000_0000_0000,
-            0x0001_1000_0000_0000,
-            0x1001_8000_0000_0000,
-        ];
-        let index = Index::of(&words);
+        let index = Index::of(&WORDS);
         // station, round, and the bits of the senders
         let cases = [
             (1, 1, 0x4000),

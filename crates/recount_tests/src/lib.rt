@@ -30,12 +30,13 @@ mod tests {
 
     const LETTER: Letter = Letter { value: 3 };
 
-    fn blank(states: &[State]) -> bool {
-        states.iter().all(|state| (state.value, state.hull) == (BLANK.value, BLANK.hull))
+    fn state((value, hull): (u16, Option<u16>)) -> State {
+        State { value, hull }
     }
 
-    fn unwritten(row: &[Letter]) -> bool {
-        row.iter().all(|letter| letter.value == LETTER.value)
+    // Whether all cells hold the same.
+    fn all_are<T: PartialEq + Drop>(cells: &[T], one: T) -> bool {
+        cells.iter().all(|cell| *cell == one)
     }
 
     // Recounts stations that open with 9 and 7, over a first buffer of three cells, and gives the answer and that buffer.
@@ -65,11 +66,8 @@ mod tests {
             (4095, (7, Some(7)), (7, Some(7))),
         ];
         for (round, first, second) in cases {
-            let (answer, states) = two_stations(&BOOK, round);
-            assert_eq!(rt; answer, Ok(round));
-            assert_eq!(rt; (states[0].value, states[0].hull), first);
-            assert_eq!(rt; (states[1].value, states[1].hull), second);
-            assert!(rt; blank(&states[2..3]));
+            let states = [state(first), state(second), BLANK];
+            assert_eq!(rt; two_stations(&BOOK, round), (Ok(round), states));
         }
     }
 
@@ -99,7 +97,7 @@ mod tests {
         round: u16,
     ) -> (Result<u16, Refusal>, bool) {
         let answer = recount(&Third, values, &BOOK, round, states, scratch, row);
-        let same = blank(states) && blank(scratch) && unwritten(row);
+        let same = all_are(states, BLANK) && all_are(scratch, BLANK) && all_are(row, LETTER);
         (answer, same)
     }
 

@@ -59,9 +59,8 @@ fn printed_example(rt: HostRuntime) -> Result<(), Fail> {
     wanted[7] = Some(Refusal::HoldsLetter);
     wanted[15] = Some(Refusal::NotListening);
     assert_eq!(rt; told.as_slice(), wanted.as_slice());
-    assert_eq!(rt; shed.crash(&Third, &mut buffers, 0), Ok(0));
     assert_eq!(rt;
-        book,
+        &*buffers.book,
         [
             0x0000_C000_0000_0000,
             0x1000_0000_0000_0000,
@@ -69,7 +68,9 @@ fn printed_example(rt: HostRuntime) -> Result<(), Fail> {
             0x1001_C000_0000_0000,
             0,
         ]
+        .as_slice()
     );
+    assert_eq!(rt; shed.crash(&Third, &mut buffers, 0), Ok(0));
     for (station, stand) in [Stand::Down, Stand::Fresh].iter().enumerate() {
         let sight = Sight {
             stand: *stand,

@@ -40,7 +40,8 @@ mod tests {
         }
     }
 
-    // What is done with a bench: its shed is opened with values, or makes a step.
+    // What is done with a bench: its shed is opened with values, or makes a step. An enum, as the check does not walk
+    // through a bound on a closure that names a const parameter.
     #[derive(Clone, Copy)]
     enum Act<'a> {
         Open(&'a [u16]),
