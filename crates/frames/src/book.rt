@@ -26,7 +26,7 @@ pub fn pack_entry(station: usize, round: u16, heard: &[bool; 16]) -> Option<u64>
     if station >= STATIONS || round >= ROUNDS {
         return None;
     }
-    let head = (station * 4096) as u64 + round as u64;
+    let head = (station * 4096) as u64 + u64::from(round);
     Some(head * (1 << 48) + heard_bits(heard) * (1 << 32))
 }
 

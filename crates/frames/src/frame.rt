@@ -22,7 +22,7 @@ pub fn pack_frame<R: Rule>(
         return None;
     }
     let address = (sender * 16 + receiver) as u64;
-    let head = address * 4096 + round as u64;
+    let head = address * 4096 + u64::from(round);
     Some(head * (1 << 44) + rule.pack(letter))
 }
 

@@ -36,6 +36,6 @@ impl Index {
         if round >= ROUNDS {
             return [[false; 16]; 16];
         }
-        array::from_fn(|station| self.words[station * 4096 + round as usize]).map(senders_in)
+        array::from_fn(|station| self.words[station * 4096 + usize::from(round)]).map(senders_in)
     }
 }

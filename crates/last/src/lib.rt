@@ -20,7 +20,8 @@ const VALUE_AT: u32 = 28;
 
 const STAMP_AT: u32 = 17;
 
-// A station's state. A stamp above 1,024 counts as 1,024. The vote stands beside its marks, since it outlasts them.
+// A station's state. A stamp above 1,024 counts as 1,024. The vote stands beside its marks, and in no
+// `Option` with them, since it stays when they are cleared.
 #[derive(Clone, Copy, Debug, PartialEq, Eq)]
 pub struct State {
     pub value: u16,
@@ -62,7 +63,7 @@ fn coordinator_of(n: usize, round: u16) -> usize
     ensures value { result ≡ coordinator n round }
     ensures bound { result < n }
 {
-    phase_of(round) as usize % n
+    usize::from(phase_of(round)) % n
 }
 
 // Of the best letter so far and the next one, each with its sender, the one with the larger stamp; the former in a tie.
@@ -189,6 +190,7 @@ impl Rule for Last {
             return None;
         }
         let coordinator = coordinator_of(n, round);
+        // A match: the four steps are this rule's own, and nobody hands it others, as closures would be.
         match round % STEPS {
             0 if receiver == coordinator => Some(Letter {
                 value: state.value,
@@ -226,6 +228,7 @@ impl Rule for Last {
         }
         let coordinator = coordinator_of(n, round);
         let coordinates = station == coordinator;
+        // A match, as in `letter`.
         match round % STEPS {
             0 if coordinates => collected(n, state, mailbox),
             1 => adopted(round, state, mailbox[coordinator]),

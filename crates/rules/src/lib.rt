@@ -10,7 +10,8 @@ pub const LAST_ROUND: u16 = 4095;
 
 // A voting rule: stations that write each other letters, round by round, until they show a hull. A caller knows it by its
 // `behaviour`, by the interface and the laws that this keeps, and by nothing more. The answers depend on the arguments
-// alone.
+// alone. It is told the number of stations, the station and the round one by one, as its definition and its laws name them:
+// a struct of the three would be made and taken apart in each call.
 pub trait Rule {
     // What a station keeps from round to round.
     type State: Copy;
@@ -79,7 +80,8 @@ pub fn first_states<R: Rule>(rule: &R, values: &[u16], states: &mut [R::State])
     ensures { states.new ≡ put states.old 0 (tabulate (length values.now)
         (λ p. (R.Rule.behaviour rule.now).first (length values.now) p (slice_index values.now p))) }
 {
-    // by index: a proof knows nothing of what is written through a `zip` of `iter_mut()`
+    // By index: a proof knows nothing of what is written through a `zip` of `iter_mut()`, and `iter_mut()` alone would index
+    // the values.
     for (station, value) in values.iter().enumerate() {
         if station < states.len() {
             states[station] = rule.first(values.len(), station, *value);

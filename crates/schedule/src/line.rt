@@ -3,7 +3,8 @@ ghost use Rattle.std.specs.Prelude.{◌≡◌, ◌+◌, ◌-◌, ◌≤◌, [], 
 
 use itoa::Buffer;
 
-// The listing's format asks for 64 bytes and blanks after the text, so it stands in cells, with a count of those that it fills.
+// The listing's format asks for 64 bytes and blanks after the text, so it stands in cells, with a count of those that it
+// fills. Words and numbers are copied in: of a `write!` into cells no contract says that it is Ok.
 #[derive(Clone, Copy)]
 pub(crate) struct Line {
     cells: [u8; 64],
@@ -26,7 +27,8 @@ impl Line {
         }
     }
 
-    // Writes bytes after what is written.
+    // Writes bytes after what is written. They have to fit, so that no line can fail; how long a line is then is told again
+    // beside what it holds, as the lines above count on it.
     pub(crate) fn word(&mut self, text: &[u8])
         requires { length (line_text self.old) + length text.now ≤ 64 }
         ensures after { line_text self.new ≡ line_text self.old ++ text.now }

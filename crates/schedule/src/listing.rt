@@ -25,10 +25,10 @@ fn two_numbers(first: &[u8], one: usize, second: &[u8], other: usize) -> Line
 pub(crate) fn refusal_line(line: usize, refusal: Refusal) -> Line
     ensures { Holds result (refusal_text line refusal) }
 {
-    two_numbers(b"line ", line, b" refused ", refusal.number() as usize)
+    two_numbers(b"line ", line, b" refused ", usize::from(refusal.number()))
 }
 
-// Whether a station is up or down.
+// Whether a station is up or down. Cells hold bytes, so a `Display` of the stand would be no plainer.
 fn stand_word(stand: Stand) -> &'static [u8]
     ensures { result.now ≡ stand_text stand }
 {
@@ -47,7 +47,7 @@ fn hull_into(out: &mut Line, hull: Option<u16>)
     match hull {
         Some(value) => {
             out.word(b" hull ");
-            out.number(value as usize);
+            out.number(usize::from(value));
         }
         None => out.word(b" hull none"),
     }
@@ -64,7 +64,7 @@ pub(crate) fn station_line(station: usize, sight: Sight, air: usize) -> Line
     out.number(station);
     out.word(stand_word(sight.stand));
     out.word(b" round ");
-    out.number(sight.round as usize);
+    out.number(usize::from(sight.round));
     hull_into(&mut out, sight.hull);
     out.word(b" air ");
     out.number(air);
@@ -86,5 +86,10 @@ pub(crate) fn book_line(entries: usize) -> Line
 pub(crate) fn fault_line(fault: Fault) -> Line
     ensures { Holds result (fault_text fault) }
 {
-    two_numbers(b"fault ", fault.number() as usize, b" line ", fault.line())
+    two_numbers(
+        b"fault ",
+        usize::from(fault.number()),
+        b" line ",
+        fault.line(),
+    )
 }

@@ -30,7 +30,7 @@ fn number(digits: &[u8]) -> Option<u16>
     }
 }
 
-// The rule that the text names. It is compared whole, so this is no `FromStr` of the rule's name alone.
+// The rule that the text names. It is the whole first line that is compared, which a `TryFrom` would only hide.
 fn rule_named(text: &str) -> Option<RuleName>
     ensures { result ≡ rule_line text.now }
 {
@@ -68,7 +68,8 @@ fn values_line(heap: Global, line: &[u8]) -> Result<Option<Vec<u16>>, AllocError
     Ok(Some(values))
 }
 
-// The step of a letter and a number. `Step` is another crate's type, so no `TryFrom` gives it here.
+// The step of a letter and a number. The letters are the text's and no part of `Step`, so no `TryFrom` of
+// its crate gives it.
 fn step(letter: char, number: usize) -> Option<Step>
     ensures { result ≡ step_of letter number }
 {
@@ -91,7 +92,7 @@ fn step_line(line: &[u8]) -> Option<Step>
         return None;
     };
     let place = number(digits)?;
-    step(*letter as char, place as usize)
+    step(*letter as char, usize::from(place))
 }
 
 // Where the first line ends.

@@ -38,7 +38,7 @@ fn count_turns(station: usize, book: &[u64]) -> (usize, usize)
     (turns, letters)
 }
 
-// A quotient as the whole number that is printed for it.
+// A quotient as the whole number that is printed for it: the one place that rounds, as a name says and `/` does not.
 fn quotient(part: usize, whole: usize) -> usize
     requires { 0 < whole }
     ensures { result ≡ rounded part whole }

@@ -32,7 +32,7 @@ fn refused_steps(heap: Global, refusals: &[Option<Refusal>]) -> Result<Vec<Refus
     Ok(refused)
 }
 
-// What is seen of each station below n.
+// What is seen of each station below n, which go by their numbers.
 fn look_around<R: Rule>(
     heap: Global,
     shed: &Shed,
