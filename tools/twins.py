@@ -8,7 +8,7 @@ import difflib
 import glob
 import re
 
-MIN, ALIKE = 24, 0.85
+MIN, ALIKE = 12, 0.85
 KEPT = "let if else for in while match return mut Some None Ok Err true false ref self".split()
 
 
