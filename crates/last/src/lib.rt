@@ -163,6 +163,7 @@ impl Rule for Last {
 
     ghost laws = { λ rule. last_laws };
 
+    // Not a body in the trait: there nothing ties the constant to the behaviour.
     fn most(&self) -> usize {
         Self::MAX_STATIONS
     }

@@ -32,7 +32,7 @@ impl<'a, R: Rule> LockstepRound<'a, R> {
         }
     }
 
-    // The letters that the receiver hears, in the first n places.
+    // The letters that the receiver hears, in the first n places of an array, which asks for no memory.
     fn mailbox(&self, receiver: usize) -> [Option<R::Letter>; 16]
         requires { receiver < self.now.n }
         ensures places { take self.now.n result ≡ tabulate self.now.n (letter_in (R.Rule.behaviour self.now.rule.now) self.now.n self.now.round self.now.heard.now self.now.states.now receiver) }

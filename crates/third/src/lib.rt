@@ -55,6 +55,7 @@ fn is_quorum(count: usize, n: usize) -> bool
 
 // A mailbox, and by sender how often the value of its letter occurs; 0 for a sender without a letter. Its functions loop
 // over the letters with the sender's index, since counts lie by sender: a chain would carry it along as a pair.
+// The counts are an array of sixteen, which asks for no memory.
 #[derive(Drop)]
 struct Counts<'a> {
     mailbox: &'a [Option<Letter>],
@@ -131,6 +132,7 @@ impl Rule for Third {
 
     ghost laws = { λ rule. third_laws };
 
+    // Not a body in the trait: there nothing ties the constant to the behaviour.
     fn most(&self) -> usize {
         Self::MAX_STATIONS
     }
