@@ -18,6 +18,8 @@ pub struct LockstepRound<'a, R: Rule> {
     ghost there: { n ≤ length states.now },
 }
 
+// A round and one of its stations are no struct, which each station would make anew: what follows asks for a station below
+// n.
 impl<'a, R: Rule> LockstepRound<'a, R> {
     // The letter that the receiver hears from a sender, or none.
     fn letter(&self, sender: usize, receiver: usize) -> Option<R::Letter>
@@ -32,7 +34,8 @@ impl<'a, R: Rule> LockstepRound<'a, R> {
         }
     }
 
-    // The letters that the receiver hears, in the first n places of an array, which asks for no memory.
+    // The letters that the receiver hears, in the first n places of an array, which asks for no memory. The shed
+    // has one line like it; a function of both would say more than each.
     fn mailbox(&self, receiver: usize) -> [Option<R::Letter>; 16]
         requires { receiver < self.now.n }
         ensures places { take self.now.n result ≡ tabulate self.now.n (letter_in (R.Rule.behaviour self.now.rule.now) self.now.n self.now.round self.now.heard.now self.now.states.now receiver) }

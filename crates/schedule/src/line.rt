@@ -39,7 +39,7 @@ impl Line {
         self.filled = end;
     }
 
-    // Writes a number in decimal digits, without leading zeros.
+    // Writes a number in decimal digits, without leading zeros. It has to fit, as for `word`.
     pub(crate) fn number(&mut self, n: usize)
         requires { length (line_text self.old) + length (decimal n) ≤ 64 }
         ensures after { line_text self.new ≡ line_text self.old ++ decimal n }

@@ -38,7 +38,7 @@ fn stand_word(stand: Stand) -> &'static [u8]
     }
 }
 
-// The hull that a station shows, or none.
+// The hull that a station shows, or none. It has to fit, so that no line can fail.
 fn hull_into(out: &mut Line, hull: Option<u16>)
     requires { length (line_text out.old) + length (hull_text hull) ≤ 64 }
     ensures after { line_text out.new ≡ line_text out.old ++ hull_text hull }

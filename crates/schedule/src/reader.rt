@@ -69,7 +69,7 @@ fn values_line(heap: Global, line: &[u8]) -> Result<Option<Vec<u16>>, AllocError
 }
 
 // The step of a letter and a number. The letters are the text's and no part of `Step`, so no `TryFrom` of
-// its crate gives it.
+// its crate gives it; and a match reads a letter, it runs nothing.
 fn step(letter: char, number: usize) -> Option<Step>
     ensures { result ≡ step_of letter number }
 {
@@ -92,7 +92,7 @@ fn step_line(line: &[u8]) -> Option<Step>
         return None;
     };
     let place = number(digits)?;
-    step(*letter as char, usize::from(place))
+    step(char::from(*letter), usize::from(place))
 }
 
 // Where the first line ends.

@@ -27,7 +27,8 @@ fn count_turns(station: usize, book: &[u64]) -> (usize, usize)
 {
     let mut turns = 0;
     let mut letters = 0;
-    // One loop counts both; two chains would read each entry twice.
+    // One loop counts both: a `fold` that carries two counts as a pair is no plainer, and two chains would read each
+    // entry twice.
     for word in book {
         let (owner, _, heard) = read_entry(*word);
         if owner == station {

@@ -34,6 +34,7 @@ fn judge(station: &Record, q: usize, k: u16) -> Result<Fate, Refusal>
     }
 }
 
+// No struct of a shed and a station, as in `sending`.
 impl Shed {
     // A letter meets its fate: it goes into its sender's cell and the sender is heard, or it is held, or it is gone.
     fn receive<L: Copy>(&mut self, letters: &mut [L], frame: (usize, usize, u16, L), fate: Fate)

@@ -12,6 +12,7 @@ use protocol::types::Stand;
 use rules::Rule;
 use std::array;
 
+// No struct of a shed and a station, as in `sending`.
 impl Shed {
     // The letter that station p has from q, if it heard q.
     fn letter_from<L: Copy>(
