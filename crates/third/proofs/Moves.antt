@@ -1,14 +1,15 @@
 -- A round of OneThirdRule does what its law says. Assumes nothing.
 use Rattle.std.proofs.Common.{◌≡◌, ℕ, ◌*◌, false, not, ◌||◌, eqb, length, arith}
 use Rattle.std.proofs.lemmas.Bool.{lt-ltb, le-ltb, eq-eqb, cond-true, cond-false, or_from, not_from_true}
+use Rattle.std.specs.Option.{option_or}
 use Rattle.rules.specs.Rule.{outside}
 use Rattle.third.specs.declared.State.{State}
-use Rattle.third.specs.Third.{Mailbox, heard, most_frequent, quorum_value, first_of, next_value, third, Moves}
+use Rattle.third.specs.Third.{Mailbox, heard, most_frequent, quorum_value, next_value, third, Moves}
 use Rattle.third.specs.Mailbox.{winner, quorum_is, quorum_occurs}
 
 module _ (n : ℕ) (s : State) (m : Mailbox) (whole : length m ≡ n) where
   abbrev after : State
-  after = record { value = next_value n s.value m; hull = first_of s.hull (quorum_value n m) }
+  after = record { value = next_value n s.value m; hull = option_or s.hull (quorum_value n m) }
 
   moved : Moves n s m after
   moved = record {

@@ -5,16 +5,17 @@ use Rattle.std.proofs.Math.Logic.{inl, inr}
 use native.Mathlib.Omega.{arith}
 use Rattle.std.proofs.lemmas.Bool.{ltb-true, eqb-true, eq-eqb, cases_lt, cond_both}
 use Rattle.rules.specs.Lists.{tabulate}
+use Rattle.std.specs.Option.{option_or}
 use Rattle.rules.specs.Rule.{Heard, lockstep, outside, Agreement, Validity}
 use Rattle.third.specs.declared.Letter.{Letter}
 use Rattle.third.specs.declared.State.{State}
-use Rattle.third.specs.Third.{third, says, heard, occurs, most_frequent, quorum_value, first_of, next_value}
+use Rattle.third.specs.Third.{third, says, heard, occurs, most_frequent, quorum_value, next_value}
 use Rattle.rules.proofs.Options.{none_some}
 use Rattle.rules.proofs.Counting.{count, overlap, no_fewer, witness, meet, count_by_tabulate}
 use Rattle.third.specs.Mailbox.{winner_most, winner_heard, quorum_occurs}
 
 -- what holds of the state and of a changed one holds of the next
-pub by_next : (P : State → Type 0) (n p k : ℕ) (s : State) (m : List (Option Letter)) → P s → P (record { value = next_value n s.value m; hull = first_of s.hull (quorum_value n m) }) → P (third.next n p k s m)
+pub by_next : (P : State → Type 0) (n p k : ℕ) (s : State) (m : List (Option Letter)) → P s → P (record { value = next_value n s.value m; hull = option_or s.hull (quorum_value n m) }) → P (third.next n p k s m)
 by_next P n p k s m old new = cond_both (outside 16 n p k || not (length m == n)) s _ P (λ _. old) (λ _. new)
 
 -- a place of a mailbox says what its sender's value is
@@ -24,7 +25,7 @@ said b c x v h = grind arith
 saying : (b c : Bool) (x v : ℕ) → is_some {T = Letter} (cond b (cond c None (Some (record { value = x }))) None) ≡ true → (x == v) ≡ true → says v (cond b (cond c None (Some (record { value = x }))) None) ≡ true
 saying b c x v h e = grind arith
 
-first_came : (a b : Option ℕ) (v : ℕ) → first_of a b ≡ Some v → (a ≡ Some v) ⊎ (b ≡ Some v)
+first_came : (a b : Option ℕ) (v : ℕ) → option_or a b ≡ Some v → (a ≡ Some v) ⊎ (b ≡ Some v)
 first_came (Some h) b v e = inl e
 first_came None b v e = inr e
 

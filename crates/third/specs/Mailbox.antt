@@ -29,7 +29,8 @@ folded_left : (m : Mailbox) (b : ℕ) (places : Mailbox) → AsGood m b (fold (b
 folded_left m b [] = omega arith
 folded_left m b (o ∷ places) = good_trans m b (better m b o) _ (better_left m b o) (folded_left m (better m b o) places)
 
-folded_good : (m : Mailbox) (b x : ℕ) (places : Mailbox) (q : ℕ) → says x (slice_index_or places q None) ≡ true → AsGood m x (fold (better m) b places)
+-- a value of the places is at most as good as what they make of the best so far
+pub folded_good : (m : Mailbox) (b x : ℕ) (places : Mailbox) (q : ℕ) → says x (slice_index_or places q None) ≡ true → AsGood m x (fold (better m) b places)
 folded_good m b x [] q h = absurd (false≢true h)
 folded_good m b x (o ∷ places) (suc q) h = folded_good m (better m b o) x places q h
 folded_good m b x (None ∷ places) zero h = absurd (false≢true h)

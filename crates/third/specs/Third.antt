@@ -1,5 +1,6 @@
 -- OneThirdRule. Assumes nothing.
 use Rattle.std.specs.Prelude.{◌≡◌, ℕ, ◌*◌, ◌/◌, ◌%◌, ◌^◌, ◌<◌, ◌≤◌, Bool, false, cond, not, ◌&&◌, ◌||◌, List, [], ◌∷◌, length, is_some, Some, None, fold, count_by, Option, ◌==◌, nat_le, nat_lt}
+use Rattle.std.specs.Option.{option_or}
 use Rattle.rules.specs.Rule.{Behaviour, outside}
 use Rattle.third.specs.declared.State.{State}
 use Rattle.third.specs.declared.Letter.{Letter}
@@ -20,11 +21,6 @@ heard m = count_by is_some m
 -- how often a value occurs
 abbrev pub occurs : ℕ → Mailbox → ℕ
 occurs v m = count_by (says v) m
-
--- how often the value of what stands at a place occurs; 0 where there is no letter
-abbrev pub times : Mailbox → Option Letter → ℕ
-times m None = 0
-times m (Some l) = occurs l.value m
 
 -- v is the value that occurs most often, the smallest of these in a tie
 pub record MostFrequent (m : Mailbox) (v : ℕ) : Type 0 where
@@ -59,14 +55,10 @@ quorum_from n m (Some l ∷ places) = cond (nat_lt (2 * n) (3 * occurs l.value m
 abbrev pub quorum_value : ℕ → Mailbox → Option ℕ
 quorum_value n m = quorum_from n m m
 
--- a hull that is shown stays
-abbrev pub first_of : Option ℕ → Option ℕ → Option ℕ
-first_of (Some h) new = Some h
-first_of None new = new
-
 abbrev pub next_value : ℕ → ℕ → Mailbox → ℕ
 next_value n v m = cond (nat_lt (2 * n) (3 * heard m)) (most_frequent m v) v
 
+-- a hull that is shown stays
 abbrev pub third : Behaviour State Letter
 third = record {
   most = 16;
@@ -74,7 +66,7 @@ third = record {
   letter = λ n p k s q. cond (outside 16 n p k || nat_le n q) None (Some (record { value = s.value }));
   next = λ n p k s m.
       cond (outside 16 n p k || not (length m == n)) s
-      (record { value = next_value n s.value m; hull = first_of s.hull (quorum_value n m) });
+      (record { value = next_value n s.value m; hull = option_or s.hull (quorum_value n m) });
   hull = λ s. s.hull;
   pack = λ l. l.value * 2 ^ 28;
   unpack = λ w. cond (w % 2 ^ 28 == 0 && nat_lt (w / 2 ^ 28) (2 ^ 16)) (Some (record { value = w / 2 ^ 28 })) None;

@@ -1,9 +1,9 @@
 // OneThirdRule: a station that hears more than two thirds of the stations takes the value that it hears most often.
 #![tactic(auto)]
 
-ghost use Rattle.std.specs.Prelude.{◌≡◌, ℕ, ◌*◌, ◌≤◌, false, length, None, nat_lt, slice_index, slice_index_or};
+ghost use Rattle.std.specs.Prelude.{◌≡◌, ◌*◌, ◌≤◌, false, length, nat_lt};
 ghost use Rattle.rules.specs.Rule.{outside};
-ghost use Rattle.third.specs.Third.{third, occurs, times, before, most_frequent, quorum_value, Moves};
+ghost use Rattle.third.specs.Third.{third, occurs, before, most_frequent, Moves};
 ghost use Rattle.third.specs.Laws.{third_interface, third_laws};
 ghost use Rattle.std.proofs.Common.{rules};
 
@@ -53,64 +53,28 @@ fn is_quorum(count: usize, n: usize) -> bool
     3 * count > 2 * n
 }
 
-// A mailbox, and by sender how often the value of its letter occurs; 0 for a sender without a letter. Its functions loop
-// over the letters with the sender's index, since counts lie by sender: a chain would carry it along as a pair.
-// The counts are an array of sixteen, which asks for no memory.
-#[derive(Drop)]
-struct Counts<'a> {
-    mailbox: &'a [Option<Letter>],
-    counts: [usize; 16],
-    ghost few: { length mailbox.now ≤ 16 },
-    ghost counted: { (q : ℕ) → slice_index counts q ≡ times mailbox.now (slice_index_or mailbox.now q None) },
-}
-
-impl<'a> Counts<'a> {
-    // Counts a mailbox.
-    fn of(mailbox: &'a [Option<Letter>]) -> Counts<'a>
-        requires { length mailbox.now ≤ 16 }
-        ensures { result.mailbox.now ≡ mailbox.now }
-    {
-        let mut counts = [0; 16];
-        for (sender, letter) in mailbox.iter().enumerate() {
-            if let Some(l) = letter {
-                counts[sender] = count_of(l.value, mailbox);
-            }
-        }
-        Counts { mailbox, counts }
-    }
-
-    // The value that occurs most often, the smallest of these in a tie; `own` if there is no letter.
-    fn commonest(&self, own: u16) -> u16
-        ensures { result ≡ most_frequent self.now.mailbox.now own }
-    {
-        let mut best = own;
-        let mut most = count_of(own, self.mailbox);
-        for (sender, letter) in self.mailbox.iter().enumerate() {
-            if let Some(l) = letter {
-                let count = self.counts[sender];
+// The value that occurs most often, the smallest of these in a tie, and how often it does; `own` if there is no letter.
+// A value is counted from its first sender on, and not again while it is the best.
+fn commonest(mailbox: &[Option<Letter>], own: u16) -> (u16, usize)
+    requires { length mailbox.now ≤ 16 }
+    ensures value { result.0 ≡ most_frequent mailbox.now own }
+    ensures count { result.1 ≡ occurs result.0 mailbox.now }
+    ensures bound { result.1 ≤ length mailbox.now }
+{
+    let mut best = own;
+    let mut most = count_of(own, mailbox);
+    for (sender, place) in mailbox.iter().enumerate() {
+        if let Some(l) = place {
+            if l.value != best {
+                let count = count_of(l.value, &mailbox[sender..]);
                 if goes_before(count, l.value, most, best) {
                     best = l.value;
                     most = count;
                 }
             }
         }
-        best
     }
-
-    // The value that more than two thirds of the n stations are heard with, or none.
-    fn quorum(&self, n: usize) -> Option<u16>
-        requires { n ≤ 16 }
-        ensures { result ≡ quorum_value n self.now.mailbox.now }
-    {
-        for (sender, letter) in self.mailbox.iter().enumerate() {
-            if let Some(l) = letter {
-                if is_quorum(self.counts[sender], n) {
-                    return Some(l.value);
-                }
-            }
-        }
-        None
-    }
+    (best, most)
 }
 
 // The rule.
@@ -170,13 +134,13 @@ impl Rule for Third {
         if is_outside(Self::MAX_STATIONS, n, station, round) || mailbox.len() != n {
             return *state;
         }
-        let tally = Counts::of(mailbox);
+        let (best, count) = commonest(mailbox, state.value);
         let value = if is_quorum(count_letters(mailbox), n) {
-            tally.commonest(state.value)
+            best
         } else {
             state.value
         };
-        let hull = state.hull.or(tally.quorum(n));
+        let hull = state.hull.or(is_quorum(count, n).then_some(best));
         State { value, hull }
     }
 
