@@ -39,6 +39,14 @@ impl Table {
         self.records.get(p).copied().unwrap_or_else(blank_record)
     }
 
+    // The record of station p, lent, so that no frame's delivery copies one.
+    pub(crate) fn lend(&self, p: usize) -> &Record
+        requires { p < 16 }
+        ensures { result.now ≡ slice_index_or self.now.records p blank }
+    {
+        &self.records[p]
+    }
+
     // Gives station p another record.
     pub fn change(&mut self, p: usize, new: Record)
         ensures { self.new.records ≡ slice_set self.old.records p new }

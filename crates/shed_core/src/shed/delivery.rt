@@ -37,6 +37,8 @@ fn judge(station: &Record, q: usize, k: u16) -> Result<Fate, Refusal>
 // No struct of a shed and a station, as in `sending`.
 impl Shed {
     // A letter meets its fate: it goes into its sender's cell and the sender is heard, or it is held, or it is gone.
+    // Inlined, as a call would pass each frame through memory.
+    #[inline(always)]
     fn receive<L: Copy>(&mut self, letters: &mut [L], frame: (usize, usize, u16, L), fate: Fate)
         requires { (frame.0 < self.old.count) × (frame.1 < self.old.count) }
         ensures counts { SameCounts self.old self.new }
@@ -72,8 +74,7 @@ impl Shed {
         let pool = &mut *buffers.pool;
         let frame = frame_at(rule, self.count, pool, self.frames, k)?;
         let (sender, receiver, round, _) = frame;
-        let station = self.table.record(receiver);
-        let fate = judge(&station, sender, round)?;
+        let fate = judge(self.table.lend(receiver), sender, round)?;
         self.frames = take_out(pool, self.frames, k)?;
         self.receive(buffers.letters, frame, fate);
         Ok(fate)
