@@ -3,7 +3,7 @@ ghost use Rattle.std.specs.Prelude.{◌≡◌, ◌<◌, ◌≤◌, [], ◌∷◌
 ghost use Rattle.std.specs.List.{position};
 ghost use Rattle.std.specs.Option.{option_map};
 ghost use Rattle.schedule.specs.declared.types.Fault.TheVariants.{Unfinished};
-ghost use Rattle.schedule.specs.Reading.{pieces, number_in, rule_line, values_line, step_of, step_line, ReadsSteps, Reads};
+ghost use Rattle.schedule.specs.Reading.{pieces, digits_after, number_in, rule_line, values_line, step_of, step_line, ReadsSteps, Reads};
 ghost use Rattle.schedule.specs.Judging.{ReadingLaws};
 
 use crate::types::{Fault, ReadError, RuleName, Schedule};
@@ -18,6 +18,20 @@ const MAX_VALUES: usize = 16;
 // The first line that has a step.
 pub(crate) const FIRST_STEP: usize = 3;
 
+// The number that digits write, leading zeros and all. A loop, as `from_utf8` and `parse` cost the longest schedule 14 % more instructions.
+fn value_of(digits: &[u8]) -> Option<u16>
+    ensures { result ≡ digits_after 0 digits.now }
+{
+    let mut value: u16 = 0;
+    for byte in digits {
+        if !byte.is_ascii_digit() {
+            return None;
+        }
+        value = value.checked_mul(10)?.checked_add(u16::from(*byte - b'0'))?;
+    }
+    Some(value)
+}
+
 // The number that the digits write: 0 to 65,535 without leading zeros. Inlined, as a call for each step costs 4 % more instructions.
 #[inline(always)]
 fn number(digits: &[u8]) -> Option<u16>
@@ -25,7 +39,7 @@ fn number(digits: &[u8]) -> Option<u16>
 {
     match digits {
         [b'0'] => Some(0),
-        [b'1'..=b'9', ..] => from_utf8(digits).ok()?.parse().ok(),
+        [b'1'..=b'9', ..] => value_of(digits),
         _ => None,
     }
 }
@@ -118,13 +132,13 @@ fn read_steps(heap: Global, text: &[u8]) -> Result<Vec<Step>, ReadError>
 {
     // A step's line has four bytes at least.
     let mut steps = Vec::with_capacity(heap, text.len() / 4)?;
-    for line in text.split_inclusive(|byte| *byte == b'\n') {
+    let mut rest = text;
+    while !rest.is_empty() {
         let number = steps.len() + FIRST_STEP;
-        let [line @ .., b'\n'] = line else {
-            return Err(ReadError::Refused(Fault::Unfinished(number)));
-        };
+        let (line, later) = finished_line(rest, number)?;
         let step = step_line(line).ok_or(Fault::WrongStep(number))?;
         steps.push(step)?;
+        rest = later;
     }
     if steps.is_empty() {
         return Err(ReadError::Refused(Fault::Unfinished(FIRST_STEP)));
