@@ -1,22 +1,24 @@
 // How well a station was reached, counted from the book.
 ghost use Rattle.std.specs.Prelude.{◌≡◌, ◌*◌, ◌<◌, ◌≤◌, length};
-ghost use Rattle.schedule.specs.Reception.{size, turns_of, heard_of, rounded, reception_of};
+ghost use Rattle.schedule.specs.Reception.{letters_in, turns_of, heard_of, rounded, reception_of};
 
 use frames::book::read_entry;
 
-// How many stations a heard set has.
-fn count_senders(heard: &[bool; 16]) -> usize
-    ensures is { result ≡ size heard.now }
+// How many letters an entry names. Not inlined, so that the entries of other stations are passed over.
+#[inline(never)]
+fn letters_in(word: u64) -> usize
+    ensures is { result ≡ letters_in word }
     ensures few { result ≤ 16 }
 {
+    let (_, _, heard) = read_entry(word);
     // `filter(..).count()` would cost the longest schedule 11 % more instructions.
-    let mut count = 0;
-    for in_set in heard {
+    let mut letters = 0;
+    for in_set in &heard {
         if *in_set {
-            count += 1;
+            letters += 1;
         }
     }
-    count
+    letters
 }
 
 // The station's turns in the book, and the letters that it heard in them.
@@ -30,10 +32,9 @@ fn count_turns(station: usize, book: &[u64]) -> (usize, usize)
     // One loop counts both: a `fold` that carries two counts as a pair is no plainer, and two chains would read each
     // entry twice.
     for word in book {
-        let (owner, _, heard) = read_entry(*word);
-        if owner == station {
+        if read_entry(*word).0 == station {
             turns += 1;
-            letters += count_senders(&heard);
+            letters += letters_in(*word);
         }
     }
     (turns, letters)
