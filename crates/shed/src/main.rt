@@ -6,9 +6,10 @@ use schedule::reader::MAX_BYTES;
 use std::io::{Read, Write};
 
 fn main(rt: HostRuntime) -> anyhow::Result<()> {
-    let mut text = Vec::new(rt.alloc());
     // One byte more than a schedule may have tells that the text is too long, however much follows.
-    let mut input = rt.stdin().take(MAX_BYTES as u64 + 1);
+    let most = MAX_BYTES + 1;
+    let mut text = Vec::with_capacity(rt.alloc(), most)?;
+    let mut input = rt.stdin().take(most as u64);
     let _count = input.read_to_end(&mut text)?;
     let out = answer(rt.alloc(), text.as_slice())?;
     let mut output = rt.stdout();
