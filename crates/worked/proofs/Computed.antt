@@ -1,4 +1,4 @@
--- Every worked example is computed. Assumes nothing.
+-- Every worked example is computed, or follows from how many letters are heard. Assumes nothing.
 use Rattle.std.proofs.Common.{refl}
 use Rattle.rules.specs.Rule.{lockstep}
 use Rattle.frames.specs.Frame.{pack_frame, read_frame}
@@ -10,12 +10,13 @@ use Rattle.worked.specs.Rules.{ThirdExamples, LastExamples}
 use Rattle.worked.specs.Words.{WordExamples}
 use Rattle.worked.specs.Calls.{RunExample, FateExamples, RefusalExamples}
 use Rattle.worked.specs.Worked.{WorkedExamples}
+use Rattle.worked.proofs.Hearing.{any_two_of_three, any_three_of_four}
 
 third_rounds : ThirdExamples
-third_rounds = record { tie_of_two = refl; two_of_three_agree = refl; three_agree = refl; two_of_three_heard = refl }
+third_rounds = record { tie_of_two = refl; two_of_three_agree = refl; three_agree = refl; two_of_three_heard = refl; any_two_of_three = any_two_of_three }
 
 last_rounds : LastExamples
-last_rounds = record { two_of_four = refl; three_of_four = refl; latest_from_lowest = refl; last_stamp = refl; stamp_too_large = refl }
+last_rounds = record { two_of_four = refl; three_of_four = refl; any_two_of_four = λ s m whole two. rw (whole, two) refl; any_three_of_four = any_three_of_four; latest_from_lowest = refl; last_stamp = refl; stamp_too_large = refl }
 
 words : WordExamples
 unfolding pack_frame read_frame pack_entry
