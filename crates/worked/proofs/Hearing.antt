@@ -5,11 +5,12 @@ use Rattle.std.proofs.lemmas.Bool.{false≢true}
 use Rattle.rules.proofs.Counting.{count_by_count, no_fewer}
 use Rattle.third.specs.declared.State.{State as ThirdState}
 use Rattle.third.specs.declared.Letter.{Letter as ThirdLetter}
-use Rattle.third.specs.Third.{third, says, occurs, first_of, quorum_value, heard as third_heard}
+use Rattle.third.specs.Third.{third, says, occurs, quorum_value, heard as third_heard}
 use Rattle.third.specs.Mailbox.{quorum_occurs}
 use Rattle.last.specs.declared.State.{State as LastState}
 use Rattle.last.specs.declared.Letter.{Letter as LastLetter}
 use Rattle.last.specs.Last.{last, heard as last_heard}
+use Rattle.std.specs.Option.{option_or}
 use Rattle.last.specs.Mailboxes.{has_latest}
 
 -- ---- OneThirdRule
@@ -35,12 +36,12 @@ no_quorum m two = go (quorum_value 3 m) refl
     go None e = e
     go (Some v) e = absurd (omega (arith, quorum_occurs 3 m m v e, occurs_heard v m, two))
 
-first_of_none : (h : Option ℕ) → first_of h None ≡ h
-first_of_none None = refl
-first_of_none (Some v) = refl
+hull_stays : (h : Option ℕ) → option_or h None ≡ h
+hull_stays None = refl
+hull_stays (Some v) = refl
 
 pub any_two_of_three : (s : ThirdState) (m : List (Option ThirdLetter)) → length m ≡ 3 → third_heard m ≡ 2 → third.next 3 0 0 s m ≡ s
-any_two_of_three s m whole two = rw (whole, two, no_quorum m two, first_of_none s.hull) refl
+any_two_of_three s m whole two = rw (whole, two, no_quorum m two, hull_stays s.hull) refl
 
 -- ---- LastVoting
 pub any_three_of_four : (s : LastState) (m : List (Option LastLetter)) → length m ≡ 4 → last_heard m ≡ 3 → (last.next 4 0 0 s m).committed ≡ true
