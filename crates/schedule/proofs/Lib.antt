@@ -4,6 +4,7 @@ pub mod Filling
 pub mod Judged
 pub mod Lines
 pub mod Listed
+pub mod NextStep
 pub mod Numbers
 pub mod Played
 pub mod ReadBack

@@ -84,7 +84,7 @@ letter_plain (Repeat n) = refl
 letter_plain (Turn n) = refl
 letter_plain (Crash n) = refl
 
-without_step : (s : Step) → number_of s < 65536 → without 10 (write_step s) ≡ true
+pub without_step : (s : Step) → number_of s < 65536 → without 10 (write_step s) ≡ true
 without_step s fit = grind (arith, letter_plain s, without_decimal 10 (number_of s) (omega arith) fit)
 
 -- a line's end, and the rest

@@ -5,7 +5,7 @@ use Rattle.std.proofs.lemmas.List.{nil_from_length}
 use Rattle.std.proofs.lemmas.Bool.Decides.{nat_tests}
 use Rattle.protocol.specs.declared.types.Step.{Step}
 use Rattle.schedule.specs.declared.types.Fault.{Fault}
-use Rattle.schedule.specs.declared.types.Fault.TheVariants.{WrongStep, Unfinished}
+use Rattle.schedule.specs.declared.types.Fault.TheVariants.{WrongStep}
 use Rattle.schedule.specs.Reading.{onto_first, pieces, step_line, right, wrong, steps_from, at_least_one}
 
 -- steps read before those of the lines that are left
@@ -42,24 +42,18 @@ module _ (k : ℕ) (late : 3 ≤ k) (line : List ℕ) where
   wrong_then : (p : List ℕ) (ps : List (List ℕ)) → step_line line ≡ None → steps_from k (line ∷ p ∷ ps) ≡ Err (WrongStep k)
   wrong_then p ps e = grind (arith, right_later k line late, wrong_later k late, e)
 
-  -- a right line, a wrong one, and one that does not end
+  -- a right line, and a wrong one
   pub step_more : (s : Step) (after : List ℕ) → Some s ≡ step_line line → steps_from k (line ∷ pieces 10 after) ≡ prepend (s ∷ []) (steps_from (suc k) (pieces 10 after))
   step_more s after e = let some = some_piece 10 after in rw some.2 (step_then s some.0 some.1 (sym e))
 
   pub step_wrong : (after : List ℕ) → None ≡ step_line line → steps_from k (line ∷ pieces 10 after) ≡ Err (WrongStep k)
   step_wrong after e = let some = some_piece 10 after in rw some.2 (wrong_then some.0 some.1 (sym e))
 
-  pub step_unfinished : 0 < length line → steps_from k (line ∷ []) ≡ Err (Unfinished k)
-  step_unfinished some = grind (arith, nat_tests)
-
 -- xs are the steps of the lines before line k, with which rest begins
 module _ (text rest : List ℕ) (xs : List Step) (k : ℕ) (late : 3 ≤ k) (inv : prepend xs (steps_from k (pieces 10 rest)) ≡ steps_from 3 (pieces 10 text)) where
   pub stops_wrong : (bytes after : List ℕ) → pieces 10 rest ≡ bytes ∷ pieces 10 after → None ≡ step_line bytes → at_least_one (steps_from 3 (pieces 10 text)) ≡ Err (WrongStep k)
   stops_wrong bytes after cut e =
       ap at_least_one (sym inv ∙ ap (λ ps. prepend xs (steps_from k ps)) cut ∙ ap (prepend xs) (step_wrong k late bytes after e))
-
-  pub stops_short : pieces 10 rest ≡ rest ∷ [] → 0 < length rest → at_least_one (steps_from 3 (pieces 10 text)) ≡ Err (Unfinished k)
-  stops_short cut some = ap at_least_one (sym inv ∙ ap (λ ps. prepend xs (steps_from k ps)) cut ∙ ap (prepend xs) (step_unfinished k late rest some))
 
   pub goes_on : (bytes after : List ℕ) (s : Step) → pieces 10 rest ≡ bytes ∷ pieces 10 after → Some s ≡ step_line bytes → prepend (xs ++ s ∷ []) (steps_from (suc k) (pieces 10 after)) ≡ steps_from 3 (pieces 10 text)
   goes_on bytes after s cut e =
@@ -69,9 +63,6 @@ module _ (text rest : List ℕ) (xs : List Step) (k : ℕ) (late : 3 ≤ k) (inv
   unfolding pieces
   ends e =
       sym inv ∙ ap (λ bs. prepend xs (steps_from k (pieces 10 bs))) (nil_from_length rest e) ∙ ap (λ (l : List Step). Ok l) (append-nil xs)
-
-  pub ends_none : length rest ≡ 0 → length xs ≡ 0 → at_least_one (steps_from 3 (pieces 10 text)) ≡ Err (Unfinished 3)
-  ends_none e none = ap at_least_one (ends e) ∙ ap (λ (l : List Step). at_least_one (Ok l)) (nil_from_length xs none)
 
   pub ends_some : length rest ≡ 0 → 0 < length xs → at_least_one (steps_from 3 (pieces 10 text)) ≡ Ok xs
   ends_some e some = ap at_least_one (ends e) ∙ go xs some

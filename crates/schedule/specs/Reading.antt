@@ -152,6 +152,16 @@ Reads text (Ok s) = read_text text ≡ Ok (plan s)
 Reads text (Err (Refused f)) = read_text text ≡ Err f
 Reads text (Err NoMemory) = Unit {0}
 
+-- the text begins with a line that writes the step s, and goes on after the line
+pub record BeginsWithStep (text : List ℕ) (s : Step) (later : List ℕ) : Type 0 where
+  pub line : List ℕ
+  pub cut : pieces 10 text ≡ line ∷ pieces 10 later
+  pub is : Some s ≡ step_line line
+
+-- if its first line ends, it writes no step
+abbrev pub NoStep : List ℕ → Type 0
+NoStep text = (line later : List ℕ) → pieces 10 text ≡ line ∷ pieces 10 later → None ≡ step_line line
+
 -- what is read of the pieces of a text that begins with line k, which is a step
 abbrev pub steps_from : ℕ → List (List ℕ) → Result (List Step) Fault
 steps_from k ps =

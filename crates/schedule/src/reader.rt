@@ -1,9 +1,9 @@
 // From the text of a schedule to the schedule.
-ghost use Rattle.std.specs.Prelude.{◌≡◌, ◌<◌, ◌≤◌, [], ◌∷◌, length, IfOk, vec_items, MatchResult, ◌==◌};
+ghost use Rattle.std.specs.Prelude.{◌≡◌, ◌<◌, ◌≤◌, [], ◌∷◌, length, IfOk, IfSome, vec_items, MatchOption, MatchResult, ◌==◌};
 ghost use Rattle.std.specs.List.{position};
 ghost use Rattle.std.specs.Option.{option_map};
 ghost use Rattle.schedule.specs.declared.types.Fault.TheVariants.{Unfinished};
-ghost use Rattle.schedule.specs.Reading.{pieces, digits_after, number_in, rule_line, values_line, step_of, step_line, ReadsSteps, Reads};
+ghost use Rattle.schedule.specs.Reading.{pieces, digits_after, number_in, rule_line, values_line, step_of, step_line, BeginsWithStep, NoStep, ReadsSteps, Reads};
 ghost use Rattle.schedule.specs.Judging.{ReadingLaws};
 
 use crate::types::{Fault, ReadError, RuleName, Schedule};
@@ -14,6 +14,9 @@ use std::str::from_utf8;
 pub const MAX_BYTES: usize = 65536;
 
 const MAX_VALUES: usize = 16;
+
+// A step is a letter, a blank and a number.
+const SHORTEST_STEP: usize = 3;
 
 // The first line that has a step.
 pub(crate) const FIRST_STEP: usize = 3;
@@ -125,25 +128,34 @@ fn finished_line(text: &[u8], line: usize) -> Result<(&[u8], &[u8]), Fault>
     Ok((&text[..end], &text[end + 1..]))
 }
 
+// The step of the line that the text begins with, and what stands after the line; nothing where that line writes no step or
+// does not end. No line of a step ends before its fourth byte, so the end is looked for from there.
+fn next_step(text: &[u8]) -> Option<(Step, &[u8])>
+    ensures step { MatchOption result (NoStep text.now) (λ x. BeginsWithStep text.now x.0 x.1.now) }
+    ensures shorter { IfSome result (λ x. length x.1.now < length text.now) }
+{
+    let end = SHORTEST_STEP + line_end(text.get(SHORTEST_STEP..)?)?;
+    let step = step_line(&text[..end])?;
+    Some((step, &text[end + 1..]))
+}
+
 // The steps of the lines from the third on, of which there is one at least.
 fn read_steps(heap: Global, text: &[u8]) -> Result<Vec<Step>, ReadError>
     requires { length text.now ≤ 65536 }
     ensures { ReadsSteps text.now result }
 {
-    // A step's line has four bytes at least.
-    let mut steps = Vec::with_capacity(heap, text.len() / 4)?;
+    let mut steps = Vec::with_capacity(heap, text.len() / (SHORTEST_STEP + 1))?;
     let mut rest = text;
-    while !rest.is_empty() {
-        let number = steps.len() + FIRST_STEP;
-        let (line, later) = finished_line(rest, number)?;
-        let step = step_line(line).ok_or(Fault::WrongStep(number))?;
+    while let Some((step, later)) = next_step(rest) {
         steps.push(step)?;
         rest = later;
     }
-    if steps.is_empty() {
-        return Err(ReadError::Refused(Fault::Unfinished(FIRST_STEP)));
+    if rest.is_empty() && !steps.is_empty() {
+        return Ok(steps);
     }
-    Ok(steps)
+    let number = steps.len() + FIRST_STEP;
+    let _line = finished_line(rest, number)?;
+    Err(ReadError::Refused(Fault::WrongStep(number)))
 }
 
 // The schedule of a text, or its fault: too long, or else the first line that is wrong, unfinished or lacking.
