@@ -21,10 +21,10 @@ pub record Untouched {S L : Type 0} (before : World S L) (after : Buffers S L) :
   pub same_book : after.book.now ≡ before.book
 
 module _ {S L : Type 0} (R : Behaviour S L) (values : List ℕ) (steps : List Step) (before : World S L) where
-  -- why nothing was conducted: the shed refused to open, or there was no memory, whatever the shed would have said
+  -- why nothing was conducted: the shed refuses to open, or it opens and there was no memory
   abbrev pub HaltedBy : Halt Refusal → Type 0
   HaltedBy (Refused f) = open_refusal R before values ≡ Some f
-  HaltedBy NoMemory = Unit {0}
+  HaltedBy NoMemory = open_refusal R before values ≡ None
 
   -- nothing was conducted: nothing was written
   pub record Halted (why : Halt Refusal) (left : Buffers S L) : Type 0 where

@@ -49,7 +49,8 @@ impl<E, T: Drop> From<AllocFailed<T>> for Halt<E> {
 }
 
 // Opens a new shed on the buffers with the opening values and makes the steps, past refusals too. Answers the shed and
-// each step's refusal or none. The memory for these is asked for first: without it nothing is written.
+// each step's refusal or none. Whether the shed opens is asked first, and then the memory for these: without either
+// nothing is written, and want of memory is told only of values and buffers with which the shed opens.
 pub fn conduct<R: Rule>(
     heap: Global,
     rule: &R,
@@ -61,8 +62,9 @@ pub fn conduct<R: Rule>(
     ensures lent { StillLent buffers.old buffers.new }
 {
     let none: Option<Refusal> = None;
-    let mut refusals = vec![in heap; none; steps.len()]?;
     let mut shed = Shed::new();
+    shed.openable(rule, buffers, values)?;
+    let mut refusals = vec![in heap; none; steps.len()]?;
     shed.open(rule, buffers, values)?;
     take_steps(&mut shed, rule, buffers, steps, refusals.as_mut_slice());
     Ok((shed, refusals))

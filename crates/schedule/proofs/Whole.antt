@@ -95,6 +95,6 @@ module _ (text : List ℕ) (short : length text ≤ 65536) where
             by_pieces_is text short ∙ ap by_pieces shape ∙ both rule values one two (some_piece 10 after).0 (some_piece 10 after).1 ruled e ∙ ap (λ ps. assemble rule values (at_least_one (steps_from 3 ps))) (sym (some_piece 10 after).2)
 
 -- the fault of the steps is the fault of the text
-pub steps_fail : (text after : List ℕ) (rule : RuleName) (values : List ℕ) → read_text text ≡ assemble rule values (at_least_one (steps_from 3 (pieces 10 after))) → (e : Halt Fault) → ReadsSteps after (Err e) → Reads text (Err e)
-steps_fail text after rule values is (Refused f) h = is ∙ ap (assemble rule values) h
-steps_fail text after rule values is NoMemory h = tt
+pub steps_fail : (text : List ℕ) → length text ≤ 65536 → (after : List ℕ) (rule : RuleName) (values : List ℕ) → read_text text ≡ assemble rule values (at_least_one (steps_from 3 (pieces 10 after))) → (e : Halt Fault) → ReadsSteps after (Err e) → Reads text (Err e)
+steps_fail text short after rule values is (Refused f) h = is ∙ ap (assemble rule values) h
+steps_fail text short after rule values is NoMemory h = short

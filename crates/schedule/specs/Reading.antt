@@ -1,5 +1,5 @@
 -- What the text of a schedule means: the schedule that it writes, or its one fault. A text is a list of bytes. Assumes nothing.
-use Rattle.std.specs.Prelude.{◌≡◌, ℕ, suc, ◌+◌, ◌-◌, ◌*◌, Bool, cond, ◌&&◌, ◌||◌, List, [], ◌∷◌, length, drop, is_some, Some, None, Ok, Err, vec_items, codes, Option, Result, Vec, ◌==◌, nat_lt, slice_index, slice_index_or}
+use Rattle.std.specs.Prelude.{◌≡◌, ℕ, suc, ◌+◌, ◌-◌, ◌*◌, ◌≤◌, Bool, cond, ◌&&◌, ◌||◌, List, [], ◌∷◌, length, drop, is_some, Some, None, Ok, Err, vec_items, codes, Option, Result, Vec, ◌==◌, nat_lt, slice_index, slice_index_or}
 use Rattle.std.specs.Option.{unwrap_or}
 use Rattle.std.specs.Char.{is_ascii_digit}
 use Rattle.std.specs.declared.alloc.Global.{Global}
@@ -146,11 +146,11 @@ read_text text = cond (nat_lt 65536 (length text)) (Err TooLong) (read_lines (fi
 abbrev pub plan : Schedule → Plan
 plan s = record { rule = s.rule; values = vec_items s.values; steps = vec_items s.steps }
 
--- at want of memory nothing is said
+-- want of memory is told only of a text that is not too long; of its lines nothing is said then
 abbrev pub Reads : List ℕ → Result Schedule (Halt Fault) → Type 0
 Reads text (Ok s) = read_text text ≡ Ok (plan s)
 Reads text (Err (Refused f)) = read_text text ≡ Err f
-Reads text (Err NoMemory) = Unit {0}
+Reads text (Err NoMemory) = length text ≤ 65536
 
 -- the text begins with a line that writes the step s, and goes on after the line
 pub record BeginsWithStep (text : List ℕ) (s : Step) (later : List ℕ) : Type 0 where

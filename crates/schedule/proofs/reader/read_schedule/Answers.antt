@@ -47,7 +47,7 @@ steps_decide c =
 pub returns-in_err-steps-clause-reads : goal.returns-in_err-steps-clause-reads
 returns-in_err-steps-clause-reads c =
     let p = err_from_is_err_and c.from_residual-in_err-steps.result c.from_residual-in_err-steps.ensures.1 in
-    rw (p.1, p.2) (steps_fail c.args.text.now c.in_ok-second.rest.now c.in_ok-rule.rule (vec_items c.in_ok-values.values) (steps_decide (goal.at.returns-in_err-steps-clause-reads c).After-read_steps) c.in_err-steps.field-0.0 c.in_err-steps.ensures)
+    rw (p.1, p.2) (steps_fail c.args.text.now (omega arith) c.in_ok-second.rest.now c.in_ok-rule.rule (vec_items c.in_ok-values.values) (steps_decide (goal.at.returns-in_err-steps-clause-reads c).After-read_steps) c.in_err-steps.field-0.0 c.in_err-steps.ensures)
 
 pub returns-clause-reads : goal.returns-clause-reads
 returns-clause-reads c = steps_decide (goal.at.returns-clause-reads c).After-read_steps ∙ ap (assemble c.in_ok-rule.rule (vec_items c.in_ok-values.values)) c.in_ok-steps.ensures
