@@ -171,9 +171,9 @@ fn write_letters<R: Cells>(told: &mut Writer<'_>, rule: &R, letters: &[R::Letter
     }
 }
 
-// Makes the calls on a new shed. Each begins with the lengths of the buffers that it is lent, from the first cell on. Of
-// each are told its answer, the stations as they are seen with these, the entry count, whether the shed is as it was, and
-// all cells of the four buffers.
+// Makes the calls on a new shed. Each begins with a mark and with the lengths of the buffers that it is lent, from the
+// first cell on. Its answer is told, and where the mark is 1 also the stations as they are seen with these buffers, the
+// entry count, whether the shed is as it was, and all cells of the four buffers.
 pub fn make_all<R: Cells>(
     rule: &R,
     calls: &mut Reader<'_>,
@@ -188,6 +188,7 @@ pub fn make_all<R: Cells>(
         if calls.is_done() {
             return;
         }
+        let whole = calls.mark();
         let s = calls.size().min(states.len());
         let l = calls.size().min(letters.len());
         let p = calls.size().min(pool.len());
@@ -203,20 +204,22 @@ pub fn make_all<R: Cells>(
             calls,
             told,
         );
-        write_sights(
-            told,
-            rule,
-            &shed,
-            &states[..s],
-            &letters[..l],
-            &pool[..p],
-            &book[..b],
-        );
-        told.number(shed.entries() as u64);
-        told.number(u64::from(shed == before));
-        write_states(told, rule, states);
-        write_letters(told, rule, letters);
-        told.numbers(pool);
-        told.numbers(book);
+        if whole {
+            write_sights(
+                told,
+                rule,
+                &shed,
+                &states[..s],
+                &letters[..l],
+                &pool[..p],
+                &book[..b],
+            );
+            told.number(shed.entries() as u64);
+            told.number(u64::from(shed == before));
+            write_states(told, rule, states);
+            write_letters(told, rule, letters);
+            told.numbers(pool);
+            told.numbers(book);
+        }
     }
 }
