@@ -1,5 +1,5 @@
 -- What the structs that cross to C stand for. Assumes nothing.
-use Rattle.std.specs.Prelude.{ℕ, Bool, true, false, cond, is_some, List, Some, None, Option, nat_lt, length, min, take, replicate, slice_index, slice_index_or}
+use Rattle.std.specs.Prelude.{ℕ, Bool, true, false, cond, is_some, List, Some, None, Option, length, min, take, slice_index_or}
 use Rattle.rules.specs.Lists.{tabulate}
 use Rattle.third.specs.declared.State.{State as ThirdState}
 use Rattle.third.specs.declared.Letter.{Letter as ThirdLetter}

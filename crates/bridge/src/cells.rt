@@ -10,7 +10,7 @@ use third::Third;
 
 // A state; third has its value and its hull alone.
 #[repr(C)]
-#[derive(Clone, Copy, PartialEq, Eq)]
+#[derive(Clone, Copy)]
 pub struct StateCell {
     pub value: u16,
     pub stamp: u16,
@@ -23,7 +23,7 @@ pub struct StateCell {
 
 // A letter, or none; third has its value alone.
 #[repr(C)]
-#[derive(Clone, Copy, PartialEq, Eq)]
+#[derive(Clone, Copy)]
 pub struct LetterCell {
     pub value: u16,
     pub stamp: u16,
@@ -32,7 +32,7 @@ pub struct LetterCell {
 
 // A word, or none.
 #[repr(C)]
-#[derive(Clone, Copy, PartialEq, Eq)]
+#[derive(Clone, Copy)]
 pub struct WordCell {
     pub word: u64,
     pub is_there: bool,
@@ -40,7 +40,7 @@ pub struct WordCell {
 
 // A frame, or none, which has no letter.
 #[repr(C)]
-#[derive(Clone, Copy, PartialEq, Eq)]
+#[derive(Clone, Copy)]
 pub struct FrameCell {
     pub sender: usize,
     pub receiver: usize,
@@ -50,7 +50,7 @@ pub struct FrameCell {
 
 // A book entry.
 #[repr(C)]
-#[derive(Clone, Copy, PartialEq, Eq)]
+#[derive(Clone, Copy)]
 pub struct EntryCell {
     pub station: usize,
     pub round: u16,

@@ -75,6 +75,7 @@ fn letter_of<R: Cells>(
     letter_or_none(rule, letter)
 }
 
+// The letter that the sender writes to the receiver, or none.
 #[unsafe(no_mangle)]
 pub extern "C" fn bridge_letter(
     rule: u8,
@@ -172,6 +173,7 @@ fn last_next(
     )
 }
 
+// The state after a round. Of a mailbox no more than twenty places are read.
 #[unsafe(no_mangle)]
 pub extern "C" fn bridge_next(
     rule: u8,
@@ -192,6 +194,7 @@ pub extern "C" fn bridge_next(
     }
 }
 
+// A letter's packed number.
 #[unsafe(no_mangle)]
 pub extern "C" fn bridge_pack(rule: u8, letter: &LetterCell) -> u64
     ensures { result ≡ (if rule == 0 then third.pack (third_letter letter.now) else last.pack (last_letter letter.now)) }
@@ -203,6 +206,7 @@ pub extern "C" fn bridge_pack(rule: u8, letter: &LetterCell) -> u64
     }
 }
 
+// A packed number's letter, or none.
 #[unsafe(no_mangle)]
 pub extern "C" fn bridge_unpack(rule: u8, word: u64) -> LetterCell
     ensures { result ≡ (if rule == 0 then maybe_letter third_letter_cell (third.unpack word) else maybe_letter last_letter_cell (last.unpack word)) }
@@ -231,6 +235,7 @@ fn word_or_none(word: Option<u64>) -> WordCell
     }
 }
 
+// A frame's word, or none.
 #[unsafe(no_mangle)]
 pub extern "C" fn bridge_pack_frame(
     rule: u8,
@@ -271,6 +276,7 @@ fn frame_of<R: Cells>(rule: &R, n: usize, word: u64) -> FrameCell
     }
 }
 
+// The frame that a word holds among n stations, or none.
 #[unsafe(no_mangle)]
 pub extern "C" fn bridge_read_frame(rule: u8, n: usize, word: u64) -> FrameCell
     ensures { result ≡ (if rule == 0
@@ -284,6 +290,7 @@ pub extern "C" fn bridge_read_frame(rule: u8, n: usize, word: u64) -> FrameCell
     }
 }
 
+// A book entry's word, or none.
 #[unsafe(no_mangle)]
 pub extern "C" fn bridge_pack_entry(station: usize, round: u16, heard: &[bool; 16]) -> WordCell
     ensures { result ≡ word_cell (packed_entry station round heard.now) }
@@ -291,6 +298,7 @@ pub extern "C" fn bridge_pack_entry(station: usize, round: u16, heard: &[bool; 1
     word_or_none(pack_entry(station, round, heard))
 }
 
+// The book entry that a word holds.
 #[unsafe(no_mangle)]
 pub extern "C" fn bridge_read_entry(word: u64) -> EntryCell
     ensures { result ≡ entry_cell (read_entry word) }
@@ -415,7 +423,8 @@ pub extern "C" fn bridge_round(
 
 // ---- the shed's calls
 
-// A list of calls on a new shed; answers how many numbers were written.
+// Makes a list of calls on a new shed, and writes what each of them answers and leaves; answers how many numbers were
+// written. The peer's own side of it writes the same numbers.
 #[unsafe(no_mangle)]
 pub extern "C" fn bridge_calls(
     rule: u8,

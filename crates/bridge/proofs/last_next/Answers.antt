@@ -1,4 +1,4 @@
-use Rattle.std.proofs.Common.{rules, ap, ◌∙◌}
+use Rattle.std.proofs.Common.{ap, ◌∙◌}
 use Rattle.last.specs.Last.{last}
 use Rattle.bridge.specs.Cells.{last_state, last_state_cell}
 use Rattle.bridge.proofs.last_next.Goals as goal
