@@ -17,6 +17,8 @@ pub enum Input {
     Letter { rule: u8, n: usize, sender: usize, round: u16, state: StateCell, receiver: usize },
     Frame { rule: u8, n: usize, sender: usize, receiver: usize, round: u16, letter: LetterCell, word: u64 },
     Entry { station: usize, round: u16, heard: [bool; 16], word: u64 },
+    /// Some of one of the last four kinds.
+    Several(Vec<Input>),
 }
 
 impl Input {
@@ -30,6 +32,7 @@ impl Input {
             Input::Letter { .. } => "letter",
             Input::Frame { .. } => "frame words, pack and unpack",
             Input::Entry { .. } => "entry words",
+            Input::Several(inputs) => inputs[0].kind(),
         }
     }
 
@@ -41,7 +44,7 @@ impl Input {
             | Input::Next { rule, .. }
             | Input::Letter { rule, .. }
             | Input::Frame { rule, .. } => Some(*rule),
-            Input::Entry { .. } => None,
+            Input::Entry { .. } | Input::Several(_) => None,
         }
     }
 }
@@ -96,6 +99,7 @@ pub fn answer(side: &impl Functions, input: &Input, room: usize) -> Vec<u64> {
                 told.extend(entry.heard.map(u64::from));
             }
         }
+        Input::Several(inputs) => inputs.iter().for_each(|input| told.extend(answer(side, input, room))),
     }
     told
 }
@@ -149,8 +153,8 @@ fn station(rng: &mut Rng, n: usize) -> usize {
 
 fn round(rng: &mut Rng) -> u16 {
     match rng.below(12) {
-        0 => *rng.pick(&[4094, 4095, 4095, 4096, 4097, 65535]),
-        1 => rng.below(4096) as u16,
+        0 | 1 => *rng.pick(&[4094, 4095, 4095, 4096, 4097, 65535]),
+        2 => rng.below(4096) as u16,
         _ => rng.below(24) as u16,
     }
 }
@@ -500,8 +504,8 @@ impl<R: Cells> Player<R> {
 fn play<R: Cells>(rng: &mut Rng, number: u8, by: R) -> Input {
     let n = if rng.percent(70) { rng.from(1, 4) } else { rng.from(1, 16) };
     let kind = rng.below(1000);
-    // One in a hundred has a buffer that is too long, and one in a hundred goes to the last round.
-    let (long, last) = (kind < 10, (10..20).contains(&kind));
+    // Three in a hundred have a buffer that is as long as may be or longer, and one in a hundred goes to the last round.
+    let (long, last) = (kind < 30, (30..40).contains(&kind));
     let pool_length = match rng.below(6) {
         0 => rng.from(1, n),
         1 => rng.from(1, n * n),
@@ -516,9 +520,9 @@ fn play<R: Cells>(rng: &mut Rng, number: u8, by: R) -> Input {
     let (mut pool, mut book) = (pool_length + rng.below(3), book_length + rng.below(3));
     if long {
         if rng.percent(50) {
-            pool = 4096 + rng.below(3);
+            pool = 4096 + *rng.pick(&[0, 0, 1]);
         } else {
-            book = 65536 + rng.below(3);
+            book = 65536 + *rng.pick(&[0, 0, 1]);
         }
     }
     let pool: Vec<u64> = (0..pool).map(|_| rng.word()).collect();
@@ -531,12 +535,12 @@ fn play<R: Cells>(rng: &mut Rng, number: u8, by: R) -> Input {
         lengths,
         numbers: Vec::new(),
         whole: if long || last { 0 } else { *rng.pick(&[5, 30, 100]) },
-        damage: *rng.pick(&[0, 2, 10]),
+        damage: if last { 0 } else { *rng.pick(&[0, 2, 10]) },
     };
-    if long || rng.percent(15) {
+    if long || (!last && rng.percent(15)) {
         player.before_opening(rng);
     }
-    if long && rng.percent(50) {
+    if long && rng.percent(75) {
         player.lengths[2] = pool.len();
         player.lengths[3] = book.len();
     }
@@ -572,6 +576,10 @@ fn play<R: Cells>(rng: &mut Rng, number: u8, by: R) -> Input {
     Input::Calls { rule: number, calls: player.numbers, pool, book }
 }
 
+fn several(rng: &mut Rng, make: fn(&mut Rng) -> Input) -> Input {
+    Input::Several((0..12).map(|_| make(rng)).collect())
+}
+
 /// The input of a seed and an index.
 pub fn ask(seed: u64, index: u64) -> Input {
     let rng = &mut Rng::of(seed ^ 0x5EED, index);
@@ -582,9 +590,59 @@ pub fn ask(seed: u64, index: u64) -> Input {
         },
         55..=66 => recount_input(rng),
         67..=74 => round_input(rng),
-        75..=86 => next_input(rng),
-        87..=91 => letter_input(rng),
-        92..=96 => frame_input(rng),
-        _ => entry_input(rng),
+        75..=84 => several(rng, next_input),
+        85..=90 => several(rng, letter_input),
+        91..=96 => several(rng, frame_input),
+        _ => several(rng, entry_input),
+    }
+}
+
+#[cfg(test)]
+mod tests {
+    use super::*;
+    use crate::calls::{make_all, Peer};
+    use std::collections::BTreeSet;
+
+    #[test]
+    fn made_lists_reach_every_refusal_and_call() {
+        let mut refused = BTreeSet::new();
+        let mut accepted = BTreeSet::new();
+        for index in 0..800 {
+            let Input::Calls { rule, calls, pool, book } = ask(3, index) else { continue };
+            let each = |call, outcome| match outcome {
+                Outcome::Refused(refusal) => {
+                    refused.insert(refusal.number());
+                }
+                _ => {
+                    accepted.insert(call);
+                }
+            };
+            match rule {
+                0 => drop(make_all(Third, &calls, &pool, &book, each)),
+                _ => drop(make_all(Last, &calls, &pool, &book, each)),
+            }
+        }
+        assert_eq!((refused.len(), accepted.len()), (15, 8));
+    }
+
+    #[test]
+    fn the_peer_keeps_what_is_refused() {
+        for index in 0..800 {
+            match ask(4, index) {
+                Input::Recount { rule, values, book, round, cells, scratch, row } => {
+                    let mut after = cells.clone();
+                    if Peer.recount(rule, &values, &book, round, &mut after, scratch, row) != 0 && rule != 0 {
+                        assert_eq!(after, cells);
+                    }
+                }
+                Input::Round { rule, n, round, heard, before, after } => {
+                    let mut new = after.clone();
+                    if Peer.round(rule, n, round, &heard, &before, &mut new) != 0 && rule != 0 {
+                        assert_eq!(new, after);
+                    }
+                }
+                _ => {}
+            }
+        }
     }
 }

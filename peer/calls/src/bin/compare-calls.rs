@@ -50,6 +50,9 @@ fn outcome_name(call: usize, outcome: Outcome) -> Vec<String> {
 
 /// What an input reaches, by the peer.
 fn reached(input: &Input, told: &[u64]) -> Vec<String> {
+    if let Input::Several(inputs) = input {
+        return inputs.iter().flat_map(|input| reached(input, &answer(&Peer, input, 0))).collect();
+    }
     let mut names = vec![format!("input {}", input.kind())];
     if let Some(rule) = input.rule() {
         names.push(format!("rule {}", rule_name(rule)));
@@ -78,6 +81,7 @@ fn reached(input: &Input, told: &[u64]) -> Vec<String> {
             names.push(format!("frame {}", if told[1] == 1 { "packed" } else { "too large" }));
             names.push(format!("frame {}", if told[8] == 1 { "read" } else { "unreadable" }));
         }
+        Input::Several(_) => {}
         Input::Entry { .. } => names.push(format!("entry {}", if told[1] == 1 { "packed" } else { "too large" })),
     }
     names
