@@ -3,7 +3,7 @@
 //! what it reached).
 
 use crate::calls::{tell_state, Bench, Cells, Functions, LetterCell, Outcome, Reader, StateCell, LETTERS, STATES};
-use crate::frames::{pack_entry, pack_frame, Entry, Frame, Heard};
+use crate::frames::{pack_frame, Frame};
 use crate::making::Rng;
 use crate::rules::{Last, LastLetter, Third, ThirdLetter};
 use crate::shed::{Refusal, Stand};
@@ -182,9 +182,11 @@ fn book_word(rng: &mut Rng, n: usize, rounds: usize) -> u64 {
         return rng.word();
     }
     let p = if rng.percent(95) { rng.below(n.clamp(1, 16)) } else { rng.below(16) };
-    let entry = Entry { station: p, round: rng.below(rounds.clamp(1, 4096)) as u16, heard: marks(rng).iter().enumerate().fold(Heard(0), |set, (q, on)| if *on { set.with(q) } else { set }) };
+    let round = rng.below(rounds.clamp(1, 4096));
+    let heard = marks(rng).iter().fold(0, |set, on| set * 2 + *on as u64);
     let low = if rng.percent(10) { rng.word() >> 32 } else { 0 };
-    pack_entry(&entry).unwrap() | low
+    // Not by the peer's own packing, so that a wrong version of that shows as a difference.
+    (p as u64) << 60 | (round as u64) << 48 | heard << 32 | low
 }
 
 /// A rule's number.
@@ -256,7 +258,7 @@ fn packed(rng: &mut Rng, rule: u8, n: usize) -> u64 {
         0 => pack_frame(&Third, &Frame { sender, receiver, round, letter: ThirdLetter { value: cell.value } }),
         _ => pack_frame(&Last, &Frame { sender, receiver, round, letter: LastLetter { value: cell.value, stamp: cell.stamp } }),
     };
-    let word = word.unwrap();
+    let word = word.unwrap_or(0);
     match rng.below(10) {
         0 => word ^ (1 << rng.below(64)),
         1 => word | (rng.below(2048) as u64) << 17,
