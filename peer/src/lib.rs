@@ -2,6 +2,8 @@
 //! (GLOSSARY, RULES, FRAMES, CALLS, GUARANTEE, RECOUNT, SCHEDULE, DECISIONS). It is a test peer:
 //! no part of the product and no part of its proof.
 
+pub mod asking;
+pub mod calls;
 pub mod frames;
 pub mod making;
 pub mod recount;

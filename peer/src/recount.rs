@@ -39,25 +39,52 @@ pub fn recount<R: Rule>(
     for p in 0..n {
         first[p] = rule.first(n, p, values[p]);
     }
+    // One pass over the book: for each round and station the first word's senders.
+    let mut heard: Vec<[Option<Heard>; 16]> = vec![[None; 16]; round as usize];
+    for word in book {
+        let entry = read_entry(*word);
+        if let Some(sets) = heard.get_mut(entry.round as usize) {
+            sets[entry.station].get_or_insert(entry.heard);
+        }
+    }
     for k in 0..round {
-        // One pass over the book: for each station the first word of round k.
-        let mut heard: [Option<Heard>; 16] = [None; 16];
-        for word in book {
-            let entry = read_entry(*word);
-            if entry.round == k && heard[entry.station].is_none() {
-                heard[entry.station] = Some(entry.heard);
-            }
-        }
-        for p in 0..n {
-            let heard = heard[p].unwrap_or(Heard(0));
-            let mailbox: Vec<Option<R::Letter>> = (0..n)
-                .map(|q| if heard.has(q) { rule.letter(n, q, k, first[q], p) } else { None })
-                .collect();
-            second[p] = rule.next(n, p, k, first[p], &mailbox);
-        }
+        let sets = heard[k as usize].map(|set| set.unwrap_or(Heard(0)));
+        one_round(rule, n, k, &sets, first, second);
         first[..n].copy_from_slice(&second[..n]);
     }
     Ok(round)
+}
+
+/// One round of the lockstep run, from all states before it to all states after it.
+fn one_round<R: Rule>(rule: &R, n: usize, k: u16, heard: &[Heard; 16], before: &[R::State], after: &mut [R::State]) {
+    let mut mailbox: Vec<Option<R::Letter>> = Vec::with_capacity(n);
+    for p in 0..n {
+        mailbox.clear();
+        mailbox.extend((0..n).map(|q| if heard[p].has(q) { rule.letter(n, q, k, before[q], p) } else { None }));
+        after[p] = rule.next(n, p, k, before[p], &mailbox);
+    }
+}
+
+/// A single round, from heard sets that the caller names; answers the round after it.
+pub fn lockstep_round<R: Rule>(
+    rule: &R,
+    n: usize,
+    round: u16,
+    heard: &[Heard; 16],
+    before: &[R::State],
+    after: &mut [R::State],
+) -> Result<u16, RecountRefusal> {
+    if n == 0 || n > rule.most() {
+        return Err(RecountRefusal::ValueCount);
+    }
+    if before.len() < n || after.len() < n {
+        return Err(RecountRefusal::BufferTooShort);
+    }
+    if round >= LAST_ROUND {
+        return Err(RecountRefusal::RoundTooHigh);
+    }
+    one_round(rule, n, round, heard, before, after);
+    Ok(round + 1)
 }
 
 #[cfg(test)]

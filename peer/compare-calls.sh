@@ -1,0 +1,13 @@
+#!/bin/sh
+# compare-calls.sh [COUNT] [SEED]: compares the library's calls with the peer's on COUNT made inputs.
+# It builds the static library of crates/bridge (`rt lib` proves it first), links it, and compares every number.
+# BRIDGE=DIR takes the libbridge.a of that folder in its place.
+set -eu
+here=$(cd "$(dirname "$0")" && pwd)
+if [ -z "${BRIDGE:-}" ]; then
+    (cd "$here/../crates/bridge" && rt lib > /dev/null)
+    BRIDGE=$here/../crates/bridge/out
+fi
+export BRIDGE
+(cd "$here/calls" && nice -n 10 cargo build --release --offline --quiet)
+exec nice -n 10 "${CARGO_TARGET_DIR:-$here/calls/target}/release/compare-calls" "${1:-25000}" "${2:-1}"
