@@ -1,6 +1,6 @@
 #!/bin/sh
 # compare.sh PROGRAM [COUNT] [SEED]: compares PROGRAM with peer-shed on COUNT made schedules.
-# The product is crates/shed/out/shed, which `rt run` in crates/shed leaves there.
+# The product is crates/shed/out/shed, which `rt run < stdin` in crates/shed leaves there.
 # KEEP=DIR keeps the schedules in DIR instead of a temporary folder.
 set -eu
 program=${1:?compare.sh PROGRAM [COUNT] [SEED]}
