@@ -1,5 +1,5 @@
 -- What the structs that cross to C stand for. Assumes nothing.
-use Rattle.std.specs.Prelude.{ℕ, Bool, true, false, cond, is_some, List, Some, None, Option, length, min, take, slice_index_or}
+use Rattle.std.specs.Prelude.{ℕ, ◌+◌, Bool, true, false, cond, is_some, List, Some, None, Option, length, min, nat_lt, take, slice_index_or}
 use Rattle.rules.specs.Lists.{tabulate}
 use Rattle.third.specs.declared.State.{State as ThirdState}
 use Rattle.third.specs.declared.Letter.{Letter as ThirdLetter}
@@ -104,3 +104,8 @@ entry_cell e = record { station = e.0; round = e.1; heard = e.2 }
 abbrev pub number_or_0 : Option Refusal → ℕ
 number_or_0 None = 0
 number_or_0 (Some f) = refusal_number f
+
+-- ---- numbers in a row
+-- the place after the one that is read or written, which the end has none of
+abbrev pub after_number : List ℕ → ℕ → ℕ
+after_number numbers at = cond (nat_lt at (length numbers)) (at + 1) at

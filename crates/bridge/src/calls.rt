@@ -174,7 +174,7 @@ fn write_letters<R: Cells>(told: &mut Writer<'_>, rule: &R, letters: &[R::Letter
 // Makes the calls on a new shed. Each begins with a mark and with the lengths of the buffers that it is lent, from the
 // first cell on. Its answer is told, and where the mark is 1 also the stations as they are seen with these buffers, the
 // entry count, whether the shed is as it was, and all cells of the four buffers.
-pub fn make_all<R: Cells>(
+pub(crate) fn make_all<R: Cells>(
     rule: &R,
     calls: &mut Reader<'_>,
     states: &mut [R::State],

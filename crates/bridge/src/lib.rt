@@ -335,6 +335,25 @@ fn number_or_0(answer: Result<u16, Refusal>) -> u8
     }
 }
 
+// Recounts states that lie in cells, with room for states and letters of the rule's own kind.
+fn recount_cells<R: Cells>(
+    rule: &R,
+    values: &[u16],
+    book: &[u64],
+    round: u16,
+    cells: &mut [StateCell],
+    states: &mut [R::State],
+    scratch: &mut [R::State],
+    row: &mut [R::Letter],
+) -> u8
+    ensures { result ≡ number_or_0 (run_refusal (R.Rule.behaviour rule.now).most (length values.now) (min (min (length states.old) (length scratch.old)) (length row.old)) (nat_lt 4095 round)) }
+{
+    load(rule, states, cells);
+    let answer = recount(rule, values, book, round, states, scratch, row);
+    store(rule, states, cells);
+    number_or_0(answer)
+}
+
 // Recounts, and answers 0 or the refusal's number. Of states no more than eighteen are read and written; scratch and row
 // are lengths.
 #[unsafe(no_mangle)]
@@ -356,35 +375,51 @@ pub extern "C" fn bridge_recount(
         let mut states = [Third.state(&STATE); STATES];
         let mut others = states;
         let mut letters = [Third.letter_in(&NO_LETTER); STATES];
-        load(&Third, &mut states, cells);
-        let answer = recount(
+        recount_cells(
             &Third,
             values,
             book,
             round,
+            cells,
             &mut states[..count],
             &mut others[..scratch],
             &mut letters[..row],
-        );
-        store(&Third, &states, cells);
-        number_or_0(answer)
+        )
     } else {
         let mut states = [Last.state(&STATE); STATES];
         let mut others = states;
         let mut letters = [Last.letter_in(&NO_LETTER); STATES];
-        load(&Last, &mut states, cells);
-        let answer = recount(
+        recount_cells(
             &Last,
             values,
             book,
             round,
+            cells,
             &mut states[..count],
             &mut others[..scratch],
             &mut letters[..row],
-        );
-        store(&Last, &states, cells);
-        number_or_0(answer)
+        )
     }
+}
+
+// One round on states that lie in cells, with room for states of the rule's own kind.
+fn round_cells<R: Cells>(
+    rule: &R,
+    n: usize,
+    round: u16,
+    heard: &[[bool; 16]; 16],
+    before: &[StateCell],
+    after: &mut [StateCell],
+    states: &mut [R::State],
+    next: &mut [R::State],
+) -> u8
+    ensures { result ≡ number_or_0 (run_refusal (R.Rule.behaviour rule.now).most n (min (length states.old) (length next.old)) (nat_le 4095 round)) }
+{
+    load(rule, states, before);
+    load(rule, next, after);
+    let answer = lockstep_round(rule, n, round, heard, states, next);
+    store(rule, next, after);
+    number_or_0(answer)
 }
 
 // One round of the lockstep run, and 0 or the refusal's number. Of both buffers no more than eighteen cells are read and
@@ -405,19 +440,29 @@ pub extern "C" fn bridge_round(
     if rule == THIRD {
         let mut states = [Third.state(&STATE); STATES];
         let mut next = states;
-        load(&Third, &mut states, before);
-        load(&Third, &mut next, after);
-        let answer = lockstep_round(&Third, n, round, heard, &states[..count], &mut next[..room]);
-        store(&Third, &next, after);
-        number_or_0(answer)
+        round_cells(
+            &Third,
+            n,
+            round,
+            heard,
+            before,
+            after,
+            &mut states[..count],
+            &mut next[..room],
+        )
     } else {
         let mut states = [Last.state(&STATE); STATES];
         let mut next = states;
-        load(&Last, &mut states, before);
-        load(&Last, &mut next, after);
-        let answer = lockstep_round(&Last, n, round, heard, &states[..count], &mut next[..room]);
-        store(&Last, &next, after);
-        number_or_0(answer)
+        round_cells(
+            &Last,
+            n,
+            round,
+            heard,
+            before,
+            after,
+            &mut states[..count],
+            &mut next[..room],
+        )
     }
 }
 
