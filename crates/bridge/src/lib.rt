@@ -2,8 +2,7 @@
 // by its number, 0 for third and any other for last.
 #![tactic(auto)]
 
-ghost use Rattle.std.specs.Prelude.{◌≡◌, ◌==◌, ◌≤◌, if◌then◌else◌, min, length, nat_lt, nat_le};
-ghost use Rattle.std.specs.Result.{result_err};
+ghost use Rattle.std.specs.Prelude.{◌≡◌, ◌==◌, ◌≤◌, false, if◌then◌else◌, min, length, nat_lt, nat_le};
 ghost use Rattle.rules.specs.Lists.{tabulate};
 ghost use Rattle.third.specs.Third.{third};
 ghost use Rattle.last.specs.Last.{last};
@@ -21,7 +20,6 @@ use cells::{Cells, EntryCell, FrameCell, LetterCell, NO_LETTER, StateCell, WordC
 use frames::book::{pack_entry, read_entry};
 use frames::frame::{pack_frame, read_frame};
 use last::Last;
-use protocol::refusal::Refusal;
 use recount::recount;
 use recount::round::lockstep_round;
 use rules::Rule;
@@ -326,15 +324,6 @@ fn store<R: Cells>(rule: &R, states: &[R::State], cells: &mut [StateCell]) {
     }
 }
 
-fn number_or_0(answer: Result<u16, Refusal>) -> u8
-    ensures { result ≡ number_or_0 (result_err answer) }
-{
-    match answer {
-        Ok(_) => 0,
-        Err(refusal) => refusal.number(),
-    }
-}
-
 // Recounts states that lie in cells, with room for states and letters of the rule's own kind.
 fn recount_cells<R: Cells>(
     rule: &R,
@@ -346,15 +335,20 @@ fn recount_cells<R: Cells>(
     scratch: &mut [R::State],
     row: &mut [R::Letter],
 ) -> u8
-    ensures { result ≡ number_or_0 (run_refusal (R.Rule.behaviour rule.now).most (length values.now) (min (min (length states.old) (length scratch.old)) (length row.old)) (nat_lt 4095 round)) }
+    ensures answer { result ≡ number_or_0 (run_refusal (R.Rule.behaviour rule.now).most (length values.now) (min (min (length states.old) (length scratch.old)) (length row.old)) (nat_lt 4095 round)) }
+    ensures refused { (result == 0) ≡ false → cells.new ≡ cells.old }
 {
     load(rule, states, cells);
-    let answer = recount(rule, values, book, round, states, scratch, row);
-    store(rule, states, cells);
-    number_or_0(answer)
+    match recount(rule, values, book, round, states, scratch, row) {
+        Ok(_) => {
+            store(rule, states, cells);
+            0
+        }
+        Err(refusal) => refusal.number(),
+    }
 }
 
-// Recounts, and answers 0 or the refusal's number. Of states no more than eighteen are read and written; scratch and row
+// Recounts, and answers 0, or the refusal's number and writes nothing. Of states no more than eighteen are read and written; scratch and row
 // are lengths.
 #[unsafe(no_mangle)]
 pub extern "C" fn bridge_recount(
@@ -366,7 +360,8 @@ pub extern "C" fn bridge_recount(
     scratch: usize,
     row: usize,
 ) -> u8
-    ensures { result ≡ number_or_0 (run_refusal 16 (length values.now) (min (min (min (length cells.old) 18) (min scratch 18)) (min row 18)) (nat_lt 4095 round)) }
+    ensures answer { result ≡ number_or_0 (run_refusal 16 (length values.now) (min (min (min (length cells.old) 18) (min scratch 18)) (min row 18)) (nat_lt 4095 round)) }
+    ensures refused { (result == 0) ≡ false → cells.new ≡ cells.old }
 {
     let count = cells.len().min(STATES);
     let scratch = scratch.min(STATES);
@@ -413,16 +408,21 @@ fn round_cells<R: Cells>(
     states: &mut [R::State],
     next: &mut [R::State],
 ) -> u8
-    ensures { result ≡ number_or_0 (run_refusal (R.Rule.behaviour rule.now).most n (min (length states.old) (length next.old)) (nat_le 4095 round)) }
+    ensures answer { result ≡ number_or_0 (run_refusal (R.Rule.behaviour rule.now).most n (min (length states.old) (length next.old)) (nat_le 4095 round)) }
+    ensures refused { (result == 0) ≡ false → after.new ≡ after.old }
 {
     load(rule, states, before);
     load(rule, next, after);
-    let answer = lockstep_round(rule, n, round, heard, states, next);
-    store(rule, next, after);
-    number_or_0(answer)
+    match lockstep_round(rule, n, round, heard, states, next) {
+        Ok(_) => {
+            store(rule, next, after);
+            0
+        }
+        Err(refusal) => refusal.number(),
+    }
 }
 
-// One round of the lockstep run, and 0 or the refusal's number. Of both buffers no more than eighteen cells are read and
+// One round of the lockstep run; answers 0, or the refusal's number and writes nothing. Of both buffers no more than eighteen cells are read and
 // written.
 #[unsafe(no_mangle)]
 pub extern "C" fn bridge_round(
@@ -433,7 +433,8 @@ pub extern "C" fn bridge_round(
     before: &[StateCell],
     after: &mut [StateCell],
 ) -> u8
-    ensures { result ≡ number_or_0 (run_refusal 16 n (min (min (length before.now) 18) (min (length after.old) 18)) (nat_le 4095 round)) }
+    ensures answer { result ≡ number_or_0 (run_refusal 16 n (min (min (length before.now) 18) (min (length after.old) 18)) (nat_le 4095 round)) }
+    ensures refused { (result == 0) ≡ false → after.new ≡ after.old }
 {
     let count = before.len().min(STATES);
     let room = after.len().min(STATES);
