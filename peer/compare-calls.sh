@@ -4,10 +4,6 @@
 # BRIDGE=DIR takes the libbridge.a of that folder in its place.
 set -eu
 here=$(cd "$(dirname "$0")" && pwd)
-if [ -z "${BRIDGE:-}" ]; then
-    (cd "$here/../crates/bridge" && rt lib > /dev/null)
-    BRIDGE=$here/../crates/bridge/out
-fi
-export BRIDGE
+. "$here/bridge.sh"
 (cd "$here/calls" && nice -n 10 cargo build --release --offline --quiet)
 exec nice -n 10 "${CARGO_TARGET_DIR:-$here/calls/target}/release/compare-calls" "${1:-25000}" "${2:-1}"

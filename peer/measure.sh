@@ -6,11 +6,7 @@
 set -eu
 program=${1:?measure.sh PROGRAM}
 here=$(cd "$(dirname "$0")" && pwd)
-if [ -z "${BRIDGE:-}" ]; then
-    (cd "$here/../crates/bridge" && rt lib > /dev/null)
-    BRIDGE=$here/../crates/bridge/out
-fi
-export BRIDGE
+. "$here/bridge.sh"
 (cd "$here" && nice -n 10 cargo build --release --offline --quiet)
 (cd "$here/calls" && nice -n 10 cargo build --release --offline --quiet)
 bin=${CARGO_TARGET_DIR:-$here/target}/release

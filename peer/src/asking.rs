@@ -2,11 +2,11 @@
 //! valid and damaged. No document describes it; it only has to reach every corner often enough (`compare-calls` prints
 //! what it reached).
 
-use crate::calls::{tell_state, Bench, Cells, Functions, LetterCell, Outcome, Reader, StateCell, LETTERS, STATES};
+use crate::calls::{tell_state, Cells, Functions, LetterCell, Outcome, Reader, StateCell, LETTERS, STATES};
 use crate::frames::{pack_frame, Frame};
 use crate::making::Rng;
 use crate::rules::{Last, LastLetter, Third, ThirdLetter};
-use crate::shed::{Refusal, Stand};
+use crate::shed::{Bench, Refusal, Stand};
 
 #[derive(Clone, Debug)]
 pub enum Input {

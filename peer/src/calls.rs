@@ -4,7 +4,7 @@
 use crate::frames::{pack_entry, pack_frame, read_entry, read_frame, Entry, Frame, Heard};
 use crate::recount::{lockstep_round, recount};
 use crate::rules::{Last, LastLetter, LastState, Rule, Third, ThirdLetter, ThirdState};
-use crate::shed::{Buffers, Fate, Refusal, Shed, Stand};
+use crate::shed::{Bench, Buffers, Fate, Refusal, Shed, Stand};
 
 /// The cells of states and of letters that a list of calls has, and the places of a mailbox that are read.
 pub const STATES: usize = 18;
@@ -184,16 +184,6 @@ pub enum Outcome {
 
 /// The calls by their numbers; any number from 7 on writes into a cell.
 pub const CALLS: [&str; 8] = ["open", "send", "deliver", "drop", "repeat", "turn", "crash", "write"];
-
-/// A shed with its buffers.
-pub struct Bench<R: Cells> {
-    pub rule: R,
-    pub shed: Shed,
-    pub states: Vec<R::State>,
-    pub letters: Vec<R::Letter>,
-    pub pool: Vec<u64>,
-    pub book: Vec<u64>,
-}
 
 impl<R: Cells> Bench<R> {
     pub fn new(rule: R, pool: &[u64], book: &[u64]) -> Bench<R> {
@@ -379,29 +369,32 @@ fn states_in<R: Cells>(rule: &R, cells: &[StateCell]) -> Vec<R::State> {
     cells.iter().take(STATES).map(|cell| rule.state(cell)).collect()
 }
 
-/// Every cell comes back in the rule's own form, also where nothing was written.
-fn put_states<R: Cells>(rule: &R, states: &[R::State], cells: &mut [StateCell]) {
+/// Every cell comes back in the rule's own form, also where nothing was written; a refused call leaves all as they were.
+fn put_states<R: Cells>(rule: &R, states: &[R::State], cells: &mut [StateCell]) -> u8 {
     for (cell, state) in cells.iter_mut().zip(states) {
         *cell = rule.state_cell(*state);
     }
+    0
 }
 
 fn recount_cells<R: Cells>(rule: &R, values: &[u16], book: &[u64], round: u16, cells: &mut [StateCell], scratch: usize, row: usize) -> u8 {
     let mut states = states_in(rule, cells);
     let mut second = vec![rule.state(&STATE); scratch.min(STATES)];
     let mut row = vec![rule.letter_in(&LetterCell::default()); row.min(STATES)];
-    let answer = recount(rule, values, book, round, &mut states, &mut second, &mut row);
-    put_states(rule, &states, cells);
-    answer.map_or_else(|refusal| refusal.number(), |_| 0)
+    match recount(rule, values, book, round, &mut states, &mut second, &mut row) {
+        Ok(_) => put_states(rule, &states, cells),
+        Err(refusal) => refusal.number(),
+    }
 }
 
 fn round_cells<R: Cells>(rule: &R, n: usize, round: u16, heard: &[[bool; 16]; 16], before: &[StateCell], after: &mut [StateCell]) -> u8 {
     let sets = heard.map(|marks| heard_set(&marks));
     let states = states_in(rule, before);
     let mut next = states_in(rule, after);
-    let answer = lockstep_round(rule, n, round, &sets, &states, &mut next);
-    put_states(rule, &next, after);
-    answer.map_or_else(|refusal| refusal.number(), |_| 0)
+    match lockstep_round(rule, n, round, &sets, &states, &mut next) {
+        Ok(_) => put_states(rule, &next, after),
+        Err(refusal) => refusal.number(),
+    }
 }
 
 impl Functions for Peer {

@@ -4,7 +4,7 @@
 use crate::frames::read_frame;
 use crate::rules::{Last, LastLetter, Rule, Third, ThirdLetter};
 use crate::schedule::{self, RuleName, Schedule, BOOK, LONGEST, POOL};
-use crate::shed::{Buffers, Shed, Stand, Step};
+use crate::shed::{Bench, Buffers, Shed, Stand, Step};
 
 /// splitmix64
 pub struct Rng(pub u64);
@@ -112,12 +112,7 @@ fn step_length(step: Step) -> usize {
 
 /// A shed of the program's sizes that the maker plays along on, so that it knows what would happen.
 pub struct Along<R: Rule> {
-    pub rule: R,
-    pub shed: Shed,
-    pub states: Vec<R::State>,
-    pub letters: Vec<R::Letter>,
-    pub pool: Vec<u64>,
-    pub book: Vec<u64>,
+    pub bench: Bench<R>,
     pub steps: Vec<Step>,
     /// How many bytes of steps there may be.
     pub room: usize,
@@ -126,23 +121,22 @@ pub struct Along<R: Rule> {
 impl<R: Rule> Along<R> {
     fn new(rule: R, blank: R::Letter, values: &[u16], room: usize) -> Along<R> {
         let state = rule.first(1, 0, 0);
-        let mut along = Along {
+        let bench = Bench {
             rule,
             shed: Shed::new(),
             states: vec![state; 16],
             letters: vec![blank; 272],
             pool: vec![0; POOL],
             book: vec![0; BOOK],
-            steps: Vec::new(),
-            room,
         };
+        let mut along = Along { bench, steps: Vec::new(), room };
         let mut b = Buffers {
-            states: &mut along.states,
-            letters: &mut along.letters,
-            pool: &mut along.pool,
-            book: &mut along.book,
+            states: &mut along.bench.states,
+            letters: &mut along.bench.letters,
+            pool: &mut along.bench.pool,
+            book: &mut along.bench.book,
         };
-        along.shed.open(&along.rule, &mut b, values).unwrap();
+        along.bench.shed.open(&along.bench.rule, &mut b, values).unwrap();
         along
     }
 
@@ -158,19 +152,19 @@ impl<R: Rule> Along<R> {
         }
         self.room -= length;
         let mut b = Buffers {
-            states: &mut self.states,
-            letters: &mut self.letters,
-            pool: &mut self.pool,
-            book: &mut self.book,
+            states: &mut self.bench.states,
+            letters: &mut self.bench.letters,
+            pool: &mut self.bench.pool,
+            book: &mut self.bench.book,
         };
-        self.shed.step(&self.rule, &mut b, step);
+        self.bench.shed.step(&self.bench.rule, &mut b, step);
         self.steps.push(step);
     }
 
     fn receiver_takes(&self, place: usize) -> bool {
-        match read_frame(&self.rule, self.shed.n, self.pool[place]) {
+        match read_frame(&self.bench.rule, self.bench.shed.n, self.bench.pool[place]) {
             Some(frame) => {
-                let record = &self.shed.records[frame.receiver];
+                let record = &self.bench.shed.records[frame.receiver];
                 record.stand == Stand::Listening && record.hold.is_none()
             }
             None => false,
@@ -179,9 +173,9 @@ impl<R: Rule> Along<R> {
 
     /// The frame at the place is for a round that its receiver has passed, or its receiver is down.
     fn is_old(&self, place: usize) -> bool {
-        match read_frame(&self.rule, self.shed.n, self.pool[place]) {
+        match read_frame(&self.bench.rule, self.bench.shed.n, self.bench.pool[place]) {
             Some(frame) => {
-                let record = &self.shed.records[frame.receiver];
+                let record = &self.bench.shed.records[frame.receiver];
                 record.stand == Stand::Down || frame.round < record.round
             }
             None => true,
@@ -189,7 +183,7 @@ impl<R: Rule> Along<R> {
     }
 
     fn stands(&self, stand: Stand) -> Vec<usize> {
-        (0..self.shed.n).filter(|p| self.shed.records[*p].stand == stand).collect()
+        (0..self.bench.shed.n).filter(|p| self.bench.shed.records[*p].stand == stand).collect()
     }
 
     /// Rounds that mostly go well, with losses, copies, stations that lag, crashes and noise.
@@ -204,7 +198,7 @@ impl<R: Rule> Along<R> {
         let mut idle = 0;
         while !self.done() && idle < 40 {
             idle += 1;
-            let n = self.shed.n;
+            let n = self.bench.shed.n;
             if rng.percent(crash) {
                 self.make(Step::Crash(rng.below(n)));
             }
@@ -216,17 +210,17 @@ impl<R: Rule> Along<R> {
                     idle = 0;
                 }
             }
-            let mut tries = 3 * self.shed.c + 4;
-            while tries > 0 && self.shed.c > 0 && !self.done() {
+            let mut tries = 3 * self.bench.shed.c + 4;
+            while tries > 0 && self.bench.shed.c > 0 && !self.done() {
                 tries -= 1;
                 if rng.percent(hasty) {
                     break;
                 }
                 if rng.percent(noise) {
-                    self.make(any_step(rng, n, self.shed.c));
+                    self.make(any_step(rng, n, self.bench.shed.c));
                     continue;
                 }
-                let place = rng.below(self.shed.c);
+                let place = rng.below(self.bench.shed.c);
                 if self.is_old(place) && rng.percent(70) {
                     self.make(Step::Drop(place));
                 } else if rng.percent(loss) {
@@ -253,7 +247,7 @@ impl<R: Rule> Along<R> {
         let weights = [weights[0] + 5, weights[1] + 10, weights[2] / 3, weights[3] / 3, weights[4] + 2, weights[5] / 30, weights[6] / 3];
         let total: usize = weights.iter().sum();
         while !self.done() {
-            let (n, c) = (self.shed.n, self.shed.c);
+            let (n, c) = (self.bench.shed.n, self.bench.shed.c);
             let mut draw = rng.below(total);
             let mut action = 0;
             while draw >= weights[action] {
@@ -279,21 +273,21 @@ impl<R: Rule> Along<R> {
 
     /// Fills the pool by sends and copies, then goes on with it full or nearly full.
     fn fill_pool(&mut self, rng: &mut Rng) {
-        let n = self.shed.n;
+        let n = self.bench.shed.n;
         let mut tries = 2000;
-        while self.shed.c < POOL && !self.done() && tries > 0 {
+        while self.bench.shed.c < POOL && !self.done() && tries > 0 {
             tries -= 1;
             let p = rng.below(n);
-            match self.shed.records[p].stand {
+            match self.bench.shed.records[p].stand {
                 Stand::Fresh => self.make(Step::Send(p)),
                 _ if rng.percent(40) => self.make(Step::Turn(p)),
-                _ if self.shed.c > 0 && rng.percent(60) => self.make(Step::Repeat(rng.below(self.shed.c))),
-                _ => self.make(any_step(rng, n, self.shed.c)),
+                _ if self.bench.shed.c > 0 && rng.percent(60) => self.make(Step::Repeat(rng.below(self.bench.shed.c))),
+                _ => self.make(any_step(rng, n, self.bench.shed.c)),
             }
         }
         let more = rng.from(10, 200);
         for _ in 0..more {
-            let c = self.shed.c;
+            let c = self.bench.shed.c;
             let step = match rng.below(10) {
                 0 | 1 => Step::Repeat(rng.below(c)),
                 2 | 3 => Step::Send(rng.below(n)),
@@ -312,17 +306,17 @@ impl<R: Rule> Along<R> {
 
     /// Turns until the book is full, and then some.
     fn fill_book(&mut self, rng: &mut Rng) {
-        let n = self.shed.n;
+        let n = self.bench.shed.n;
         let alone = rng.below(n);
         let only_one = rng.percent(50);
-        while self.shed.e < BOOK && !self.done() {
+        while self.bench.shed.e < BOOK && !self.done() {
             for p in 0..n {
                 if only_one && p != alone && !rng.percent(1) {
                     continue;
                 }
                 self.make(Step::Send(p));
-                while self.shed.c > rng.below(3) * n && !self.done() {
-                    let place = rng.below(self.shed.c);
+                while self.bench.shed.c > rng.below(3) * n && !self.done() {
+                    let place = rng.below(self.bench.shed.c);
                     if self.receiver_takes(place) && rng.percent(80) {
                         self.make(Step::Deliver(place));
                     } else {
@@ -336,7 +330,7 @@ impl<R: Rule> Along<R> {
             let step = match rng.below(4) {
                 0 => Step::Send(rng.below(n)),
                 1 | 2 => Step::Turn(rng.below(n)),
-                _ => any_step(rng, n, self.shed.c),
+                _ => any_step(rng, n, self.bench.shed.c),
             };
             self.make(step);
         }
@@ -585,7 +579,7 @@ pub fn longest(rule: RuleName) -> Vec<u8> {
             for k in 0..copies {
                 along.make(Step::Repeat(k % 10));
             }
-            while along.shed.c > 0 && !along.done() {
+            while along.bench.shed.c > 0 && !along.done() {
                 along.make(Step::Deliver(0));
             }
             for p in 0..16 {

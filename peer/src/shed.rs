@@ -77,6 +77,16 @@ pub struct Buffers<'a, R: Rule> {
     pub book: &'a mut [u64],
 }
 
+/// A shed with its rule and with buffers of its own, of which each call is lent as much as it is to have.
+pub struct Bench<R: Rule> {
+    pub rule: R,
+    pub shed: Shed,
+    pub states: Vec<R::State>,
+    pub letters: Vec<R::Letter>,
+    pub pool: Vec<u64>,
+    pub book: Vec<u64>,
+}
+
 #[derive(Clone, PartialEq, Eq, Debug)]
 pub struct Shed {
     /// 0 while shut.
