@@ -1,7 +1,7 @@
 #!/bin/sh
 # compare-calls.sh [COUNT] [SEED]: compares the library's calls with the peer's on COUNT made inputs.
-# It builds the static library of crates/bridge (`rt lib` proves it first), links it, and compares every number.
-# BRIDGE=DIR takes the libbridge.a of that folder in its place.
+# It builds the static library of crates/peer_bridge (`rt lib` proves it first), links it, and compares every number.
+# BRIDGE=DIR takes the libpeer_bridge.a of that folder in its place.
 set -eu
 here=$(cd "$(dirname "$0")" && pwd)
 . "$here/bridge.sh"

@@ -1,8 +1,8 @@
 #!/bin/sh
 # measure.sh PROGRAM: instructions of PROGRAM and of peer-shed on a schedule of 65,536 bytes for each rule; and of recount of 16
 # stations over 4,095 rounds and 65,536 words, by the library and by the peer, each called from the same small binary.
-# The product is crates/shed/out/shed, which `rt run < stdin` in crates/shed leaves there, and the static library of crates/bridge,
-# which `rt lib` makes there; BRIDGE=DIR takes the libbridge.a of that folder in its place.
+# The product is crates/shed/out/shed, which `rt run < stdin` in crates/shed leaves there, and the static library of crates/peer_bridge,
+# which `rt lib` makes there; BRIDGE=DIR takes the libpeer_bridge.a of that folder in its place.
 set -eu
 program=${1:?measure.sh PROGRAM}
 here=$(cd "$(dirname "$0")" && pwd)

@@ -1,4 +1,4 @@
-//! The functions that `crates/bridge` offers to C, as a trait, and the peer's own side of them. What each gets and answers
+//! The functions that `crates/peer_bridge` offers to C, as a trait, and the peer's own side of them. What each gets and answers
 //! is what the bridge says; how it is answered is the peer's own, by FRAMES.md, RULES.md, CALLS.md and RECOUNT.md.
 
 use crate::frames::{pack_entry, pack_frame, read_entry, read_frame, Entry, Frame, Heard};

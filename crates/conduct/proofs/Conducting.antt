@@ -1,13 +1,13 @@
--- A new shed that is opened, and then carries out its steps. Assumes nothing.
+-- A new shed that is opened, and then carries out its steps.
 use Rattle.std.proofs.Common.{◌≡◌, ℕ, suc, ◌^◌, ◌<◌, List, [], ◌∷◌, length, get_or, set, Some, None, Ok, Option, Result, sym, refl, ap, ◌∙◌, subst, arith}
 use Rattle.rules.specs.Rule.{Behaviour, Interface, Laws}
-use Rattle.rules.specs.Lists.{put}
+use Rattle.lists.specs.Lists.{put}
 use Rattle.shed_core.specs.declared.shed.Shed.{Shed}
 use Rattle.shed_core.specs.declared.buffers.Buffers.{Buffers}
 use Rattle.protocol.specs.declared.refusal.Refusal.{Refusal}
 use Rattle.protocol.specs.declared.types.Step.{Step}
 use Rattle.protocol.specs.World.{World}
-use Rattle.shed_core.specs.Of.{world_of, shut_with, ComesTo, New}
+use Rattle.shed_core.specs.Of.{world_of, shut_with, ComesTo, IsNew}
 use Rattle.protocol.specs.Calls.{attempt, open_refusal, open_call, opened, step, after, refusals}
 use Rattle.conduct.specs.Conduct.{CarriedOut}
 use Rattle.shed_core.proofs.Worlds.{same_world}
@@ -37,7 +37,7 @@ module _ {A S L : Type 0} (w : World S L) (a : A) (b : World S L) where
   was_accepted (Some f) y e = absurd (let z : ◌≡◌ {A = ℕ} 0 1 = cc in omega arith)
 
 module _ {S L : Type 0} (R : Behaviour S L) (face : Interface R) (laws : Laws R) (values : List ℕ) (small : (p : ℕ) → p < length values → get_or values p 0 < 2 ^ 16) (steps : List Step)
-    (fresh s : Shed) (b b' : Buffers S L) (new : New fresh) (r : Result ℕ Refusal) (opening : ComesTo r (world_of s b') (open_call R (world_of fresh b) values)) where
+    (fresh s : Shed) (b b' : Buffers S L) (new : IsNew fresh) (r : Result ℕ Refusal) (opening : ComesTo r (world_of s b') (open_call R (world_of fresh b) values)) where
   is_shut : world_of fresh b ≡ shut_with b
   is_shut = same_world new.shut new.no_pool new.no_book new.no_frames new.no_entries new.blanks refl refl refl refl
 

@@ -1,9 +1,9 @@
--- One step of a list of calls, and the next. Assumes nothing.
+-- One step of a list of calls, and the next.
 use Rattle.std.proofs.Common.{◌≡◌, ℕ, suc, ◌+◌, ◌<◌, ◌≤◌, List, [], ◌∷◌, length, get_or, drop, set, Option, Result, sym, ap, ◌∙◌, add-one}
 use Rattle.std.specs.Result.{result_err}
 use Rattle.std.proofs.lemmas.List.{at_drop_more, at_drop_all, set_past}
 use Rattle.rules.specs.Rule.{Behaviour}
-use Rattle.rules.specs.Lists.{put}
+use Rattle.lists.specs.Lists.{put}
 use Rattle.protocol.specs.declared.refusal.Refusal.{Refusal}
 use Rattle.protocol.specs.declared.types.Step.{Step}
 use Rattle.protocol.specs.World.{World}

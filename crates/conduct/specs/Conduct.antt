@@ -1,4 +1,4 @@
--- What it comes to that a new shed is opened and a list of steps is made. Assumes nothing.
+-- What it comes to that a new shed is opened and a list of steps is made.
 use Rattle.std.specs.Prelude.{◌≡◌, ℕ, List, Some, None, Ok, Err, vec_items, Option, Result, Vec}
 use Rattle.std.specs.declared.alloc.Global.{Global}
 use Rattle.rules.specs.Rule.{Behaviour}

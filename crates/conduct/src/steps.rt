@@ -1,6 +1,6 @@
 // Steps, one by one and as a list.
 ghost use Rattle.std.specs.Prelude.{◌≡◌};
-ghost use Rattle.rules.specs.Lists.{put};
+ghost use Rattle.lists.specs.Lists.{put};
 ghost use Rattle.shed_core.specs.Of.{world_of, ComesTo, StillLent};
 ghost use Rattle.protocol.specs.Calls.{step, after, refusals};
 

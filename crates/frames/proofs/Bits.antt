@@ -1,12 +1,11 @@
 -- The bits of a set of stations: how large their number is, each bit of it, and the set that a number's bits are.
--- Assumes nothing.
 use Rattle.std.proofs.Common.{◌≡◌, ℕ, zero, suc, ◌+◌, ◌*◌, ◌/◌, ◌%◌, ◌^◌, ◌<◌, ◌≤◌, Bool, true, false, cond, eqb, List, [], ◌∷◌, length, get_or, drop, refl, ap, ◌∙◌, arith}
 use native.Mathlib.Nat.{zero-div, mul-add-div_right}
 use Rattle.std.proofs.lemmas.Nat.{pow_pos, pow-add, shr_high, mod-pow-add}
 use mir.Val.{bool_byte}
 use Rattle.std.proofs.Math.Nat.{le-mul_of_pos_right}
 use Rattle.std.proofs.lemmas.List.{at_drop_more}
-use Rattle.rules.specs.Lists.{tabulate}
+use Rattle.lists.specs.Lists.{tabulate}
 use Rattle.frames.specs.Book.{set_bits}
 
 half : (m : ℕ) → 2 ^ suc m / 2 ≡ 2 ^ m

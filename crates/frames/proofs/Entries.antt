@@ -1,11 +1,11 @@
--- Book entries survive their words, and words their entries but for the low bits. Assumes nothing.
+-- Book entries survive their words, and words their entries but for the low bits.
 use Rattle.std.proofs.Common.{◌≡◌, ℕ, suc, ◌+◌, ◌-◌, ◌*◌, ◌/◌, ◌%◌, ◌^◌, ◌<◌, ◌≤◌, Bool, true, false, cond, ◌&&◌, eqb, ltb, List, length, get_or, Some, Option, sym, ap, ◌∙◌, inl, inr, mul_assoc, arith}
 use Rattle.std.proofs.lemmas.Nat.{pow-add, shr-shr}
 use Rattle.std.proofs.lemmas.List.{get_or_past, ext_get_or}
 use Rattle.std.proofs.lemmas.Bool.{lt-ltb, le-ltb, ltb-true, cases_lt, and_parts}
-use Rattle.rules.specs.Lists.{tabulate}
-use Rattle.rules.proofs.Options.{same_some, only}
-use Rattle.rules.proofs.Tables.{get_or_tabulate}
+use Rattle.lists.specs.Lists.{tabulate}
+use Rattle.lists.proofs.Options.{same_some, only}
+use Rattle.lists.proofs.Tables.{get_or_tabulate}
 use Rattle.frames.specs.Book.{set_bits, pack_entry, packed_entry, senders_in, read_entry, EntryBack, EntryAgain}
 use Rattle.frames.proofs.Bits.{bits_small, parity, bit_at, bits_of}
 

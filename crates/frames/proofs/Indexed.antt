@@ -1,9 +1,9 @@
--- A book's words by station and round name the same senders as the book. Assumes nothing.
+-- A book's words by station and round name the same senders as the book.
 use Rattle.std.proofs.Common.{◌≡◌, ℕ, ◌+◌, ◌*◌, ◌/◌, ◌%◌, ◌^◌, ◌<◌, ◌≤◌, false, eqb, List, [], ◌∷◌, get_or, set, replicate, sym, refl, ap, ◌∙◌, inl, inr, arith, length-set, get_or-set_other, get_or-set_same}
 use lib.ListN.{length-replicate}
 use Rattle.std.proofs.lemmas.Bool.{eq-eqb, ne_eqb, cases_eq, cond-true, cond-false}
-use Rattle.rules.specs.Lists.{tabulate}
-use Rattle.rules.proofs.Tables.{tabulate_same, get_or_replicate_all}
+use Rattle.lists.specs.Lists.{tabulate}
+use Rattle.lists.proofs.Tables.{tabulate_same, get_or_replicate_all}
 use Rattle.frames.specs.Book.{senders_in, heard_set, heard_sets}
 use Rattle.frames.specs.Index.{first_at, Indexes}
 use Rattle.frames.proofs.Sets.{set_named, other_station, other_round, set_empty, sets_passed, sets_empty}

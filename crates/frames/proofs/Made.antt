@@ -1,12 +1,12 @@
--- An array that a closure makes place by place, or a function from another array, is a table. Assumes nothing.
+-- An array that a closure makes place by place, or a function from another array, is a table.
 use denote.Param.Members.{Mut}
 use Rattle.std.proofs.Common.{◌≡◌, ℕ, zero, suc, ◌+◌, ◌<◌, ◌≤◌, List, length, get_or, take, sym, refl, ap, subst, ◌∙◌, inl, inr, arith}
 use Rattle.std.specs.Array.{IsFromFnResult, IsFromFnResultFrom, IsMapOf}
 use Rattle.std.specs.Fn.{Called}
 use Rattle.std.proofs.lemmas.Bool.{cases_eq}
 use Rattle.std.proofs.lemmas.List.{ext_get_or}
-use Rattle.rules.specs.Lists.{tabulate}
-use Rattle.rules.proofs.Tables.{length_tabulate, get_or_tabulate}
+use Rattle.lists.specs.Lists.{tabulate}
+use Rattle.lists.proofs.Tables.{length_tabulate, get_or_tabulate}
 
 table_from : {A : Type 0} (n : ℕ) (h : ℕ → A) (ys : List A) → length ys ≡ n → ((i : ℕ) → i < n → get_or ys i (h 0) ≡ h i) → ys ≡ tabulate n h
 table_from n h ys long each = ext_get_or (h 0) ys (tabulate n h) (long ∙ sym (length_tabulate n h)) (λ i l. let below : i < n = omega (arith, long) in each i below ∙ sym (get_or_tabulate n h i (h 0) below))

@@ -1,8 +1,8 @@
--- Frames survive their words, and readable words their frames. Assumes nothing.
+-- Frames survive their words, and readable words their frames.
 use Rattle.std.proofs.Common.{◌≡◌, ℕ, ◌+◌, ◌*◌, ◌/◌, ◌%◌, ◌^◌, ◌<◌, ◌≤◌, true, ◌&&◌, T, ltb, Some, None, Option, refl, ap, arith}
 use Rattle.std.proofs.lemmas.Bool.{lt-ltb, ltb-true, and_parts}
 use Rattle.rules.specs.Rule.{Behaviour, Laws}
-use Rattle.rules.proofs.Options.{none_some, same_some, only}
+use Rattle.lists.proofs.Options.{none_some, same_some, only}
 use Rattle.frames.specs.Frame.{Frame, pack_frame, packed_frame, read_frame, framed, ReadsBack, PacksAgain}
 
 framed_from : {L : Type 0} (s r k : ℕ) (o : Option L) (f : Frame L) → framed s r k o ≡ Some f → (l : L) × (o ≡ Some l) × (f ≡ (s, r, k, l))

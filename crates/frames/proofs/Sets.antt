@@ -1,11 +1,11 @@
--- Whom a book's words name, one word more. Assumes nothing.
+-- Whom a book's words name, one word more.
 use Rattle.std.proofs.Common.{◌≡◌, ℕ, zero, suc, ◌-◌, ◌/◌, ◌%◌, ◌^◌, ◌<◌, Bool, true, false, cond, ◌&&◌, eqb, ltb, List, [], ◌∷◌, ◌++◌, get_or, set, replicate, Some, None, Option, sym, refl, ap, ◌∙◌, inl, inr}
 use Rattle.std.proofs.Math.Seq.{append_snoc}
 use Rattle.std.specs.List.{find, push}
 use Rattle.std.specs.Option.{MatchOption, option_map, option_map_or}
 use native.Mathlib.Nat.{zero-div}
 use Rattle.std.proofs.lemmas.Bool.{lt-ltb, eq-eqb, ne_eqb, and_left, and_right, and_from, cases_Bool}
-use Rattle.rules.proofs.Tables.{tabulate_same, tabulate_set, get_or_tabulate}
+use Rattle.lists.proofs.Tables.{tabulate_same, tabulate_set, get_or_tabulate}
 use Rattle.frames.specs.Book.{senders_in, book_heard, heard_set, heard_sets, hears}
 
 -- whether a word is for station p and round k

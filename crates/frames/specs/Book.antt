@@ -1,6 +1,6 @@
--- A book entry: how a finished round is written down as one word of 64 bits, and whom a book's words name. Assumes nothing.
+-- A book entry: how a finished round is written down as one word of 64 bits, and whom a book's words name.
 use Rattle.std.specs.Prelude.{◌≡◌, ℕ, ◌+◌, ◌-◌, ◌*◌, ◌/◌, ◌%◌, ◌^◌, Bool, false, cond, ◌&&◌, List, [], ◌∷◌, Some, None, Option, ◌==◌, nat_eq, nat_lt, slice_index_or}
-use Rattle.rules.specs.Lists.{tabulate}
+use Rattle.lists.specs.Lists.{tabulate}
 use Rattle.rules.specs.Rule.{Heard}
 
 -- ---- one entry

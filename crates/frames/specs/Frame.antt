@@ -1,4 +1,4 @@
--- A frame: how a letter travels as one word of 64 bits. Assumes nothing.
+-- A frame: how a letter travels as one word of 64 bits.
 use Rattle.std.specs.Prelude.{◌≡◌, ℕ, ◌+◌, ◌*◌, ◌/◌, ◌%◌, ◌^◌, ◌<◌, Bool, cond, ◌&&◌, T, is_some, Some, None, Option, nat_lt}
 use Rattle.rules.specs.Rule.{Behaviour}
 

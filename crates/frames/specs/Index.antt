@@ -1,4 +1,4 @@
--- A book's words by station and round. Assumes nothing.
+-- A book's words by station and round.
 use Rattle.std.specs.Prelude.{◌≡◌, ℕ, ◌/◌, ◌^◌, cond, List, [], ◌∷◌, length, ◌==◌, slice_index}
 
 -- the first word of a book whose upper 16 bits, station and round, are the place; 0 where there is none

@@ -1,7 +1,7 @@
--- The pool's words, of which the first c are frames: what each call answers and leaves. Assumes nothing.
+-- The pool's words, of which the first c are frames: what each call answers and leaves.
 use Rattle.std.specs.Prelude.{ℕ, ◌+◌, ◌-◌, Bool, cond, ◌&&◌, List, length, Ok, Err, Result, nat_le, nat_lt, slice_index, slice_index_or, slice_set}
 use Rattle.std.specs.Option.{ok_or}
-use Rattle.rules.specs.Lists.{put}
+use Rattle.lists.specs.Lists.{put}
 use Rattle.rules.specs.Rule.{Behaviour}
 use Rattle.frames.specs.declared.pool.PoolRefusal.{PoolRefusal}
 use Rattle.frames.specs.declared.pool.PoolRefusal.TheVariants.{NoSuchPlace, Unreadable, Full}

@@ -1,10 +1,9 @@
 -- The phases of a lockstep run one after another: all hulls that are shown are equal, and each is an opening value.
--- Assumes nothing.
 use Rattle.std.specs.Prelude.{◌≡◌, ℕ, zero, suc, ◌+◌, ◌*◌, ◌%◌, ◌<◌, ◌≤◌, List, length, Some, slice_index, refl}
 use Rattle.std.proofs.Common.{sym, subst, ◌∙◌, inl, inr, arith, add-one}
 use Rattle.std.proofs.lemmas.Bool.{cases_lt, false≢true}
 use Rattle.rules.specs.Rule.{Opening, Heard, lockstep, Agreement, Validity}
-use Rattle.rules.proofs.Options.{none_some}
+use Rattle.lists.proofs.Options.{none_some}
 use Rattle.rules.proofs.Runs.{hull_stays}
 use Rattle.last.specs.declared.State.{State}
 use Rattle.last.specs.Last.{last, phase}

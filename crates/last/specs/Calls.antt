@@ -1,9 +1,9 @@
--- What one call of `letter` tells of its sender, and what one call of `next` does in each step. Assumes nothing.
+-- What one call of `letter` tells of its sender, and what one call of `next` does in each step.
 use Rattle.std.specs.Prelude.{◌≡◌, ℕ, ◌+◌, ◌*◌, ◌%◌, Bool, true, false, cond, not, ◌||◌, ltb, length, Some, None, Option, ◌==◌, nat_le, nat_lt, slice_index_or, refl}
 use Rattle.std.proofs.Common.{sym, ap, subst, ◌∙◌, arith}
 use Rattle.std.proofs.lemmas.Bool.{cond_both, cond-true, cond-false, ltb-true, eqb-true, and_parts, not_from_true, eq-eqb, lt-ltb, or_from}
 use Rattle.rules.specs.Rule.{outside, Stable}
-use Rattle.rules.proofs.Options.{none_some, only, unless}
+use Rattle.lists.proofs.Options.{none_some, only, unless}
 use Rattle.last.specs.declared.State.{State}
 use Rattle.last.specs.declared.Letter.{Letter}
 use Rattle.last.specs.Last.{last, phase, coordinator, by_step, stamped, Mailbox, At, heard, latest, committed_to, adopting, readied, commit, collect, adopt, acknowledge, hull_after, decide, writes, VotesForLatest}

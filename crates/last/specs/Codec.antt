@@ -1,4 +1,4 @@
--- A packed letter reads back as what it counts as, and a number that unpacks packs to itself. Assumes nothing.
+-- A packed letter reads back as what it counts as, and a number that unpacks packs to itself.
 use Rattle.std.specs.Prelude.{◌≡◌, ℕ, ◌^◌, ◌<◌, ◌≤◌, Some}
 use Rattle.std.proofs.Common.{arith}
 use Rattle.std.proofs.lemmas.Bool.Decides.{nat_tests}

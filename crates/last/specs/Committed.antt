@@ -1,9 +1,9 @@
--- What holds of n stations at a phase's start and after each of its steps, and why each step carries it on. Assumes nothing.
+-- What holds of n stations at a phase's start and after each of its steps, and why each step carries it on.
 use Rattle.std.specs.Prelude.{◌≡◌, ℕ, ◌+◌, ◌*◌, ◌%◌, ◌<◌, ◌≤◌, Some, ◌==◌, nat_eq, nat_lt, refl}
 use Rattle.std.proofs.Common.{sym, ap, subst, ◌∙◌, inl, inr, arith}
 use Rattle.std.proofs.lemmas.Bool.{eqb-true, eqb-false, lt-ltb, cases_Bool, cond_both, cond-true, cond-false, false≢true}
-use Rattle.rules.proofs.Options.{same_some}
-use Rattle.rules.proofs.Counting.{count, no_fewer}
+use Rattle.lists.proofs.Options.{same_some}
+use Rattle.lists.proofs.Counting.{count, no_fewer}
 use Rattle.last.specs.declared.State.{State}
 use Rattle.last.specs.Last.{stamped}
 use Rattle.last.specs.Locked.{Locked, Keeps, locked_on, vote_locked}

@@ -1,5 +1,5 @@
 -- LastVoting. Four rounds are a phase, and each phase has a coordinator: it collects the stations' values and commits to
--- one, the stations adopt that, they acknowledge it, and they decide. Assumes nothing.
+-- one, the stations adopt that, they acknowledge it, and they decide.
 use Rattle.std.specs.Prelude.{◌≡◌, ℕ, suc, ◌+◌, ◌*◌, ◌/◌, ◌%◌, ◌^◌, ◌<◌, ◌≤◌, min, Bool, true, false, cond, not, ◌&&◌, ◌||◌, List, [], ◌∷◌, length, is_some, Some, None, count_by, Option, ◌==◌, nat_le, nat_lt, slice_index_or}
 use Rattle.rules.specs.Rule.{Behaviour, outside}
 use Rattle.last.specs.declared.State.{State}

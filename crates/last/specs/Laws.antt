@@ -1,11 +1,11 @@
--- LastVoting keeps the interface and the four laws of a rule. Assumes nothing.
+-- LastVoting keeps the interface and the four laws of a rule.
 use Rattle.std.specs.Prelude.{◌≡◌, ℕ, ◌^◌, ◌<◌, ◌≤◌, Bool, cond, ◌&&◌, ◌||◌, T, Some, None, nat_le, nat_lt, refl}
 use Rattle.std.proofs.Common.{◌∙◌, ap, arith, lit≤}
 use Rattle.std.proofs.lemmas.Bool.{cond-true, cond_both, lt-ltb, ne_eqb, or_left, or_right, and_from, not_from_false}
 use Rattle.rules.specs.Rule.{outside, Interface, Codec, Laws, MailFits}
 use Rattle.std.proofs.lemmas.Bool.Decides.{nat_tests}
 use Rattle.std.proofs.lemmas.Float.{T_from_true}
-use Rattle.rules.proofs.Options.{holds, only, unless}
+use Rattle.lists.proofs.Options.{holds, only, unless}
 use Rattle.last.specs.declared.State.{State}
 use Rattle.last.specs.declared.Letter.{Letter}
 use Rattle.last.specs.Last.{last, Mailbox, writes}

@@ -1,9 +1,8 @@
 -- A value is locked when more than half of the stations hold it so that no later coordinator can vote for another.
--- Assumes nothing.
 use Rattle.std.specs.Prelude.{◌≡◌, ℕ, ◌*◌, ◌<◌, ◌≤◌, ltb, ◌⊎◌}
 use Rattle.std.proofs.Common.{sym, ◌∙◌, inl, inr, arith}
 use Rattle.std.proofs.lemmas.Bool.{ltb-true, lt-ltb}
-use Rattle.rules.proofs.Counting.{count, no_fewer, witness, meet}
+use Rattle.lists.proofs.Counting.{count, no_fewer, witness, meet}
 use Rattle.last.specs.declared.State.{State}
 use Rattle.last.specs.Phase.{Vote}
 

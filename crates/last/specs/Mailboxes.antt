@@ -1,10 +1,10 @@
 -- The latest letter of a mailbox: it is there, no letter has a larger stamp, and none of a lower sender has as large a
--- stamp. Assumes nothing.
+-- stamp.
 use Rattle.std.specs.Prelude.{◌≡◌, ℕ, suc, ◌+◌, ◌-◌, ◌<◌, ◌≤◌, true, [], ◌∷◌, get_or, is_some, Some, None, Option, nat_lt, slice_index_or, refl}
 use Rattle.std.proofs.Common.{sym, ap, subst, ◌∙◌, inl, inr, arith}
 use Rattle.std.proofs.lemmas.Bool.{cond_both, ltb-true, ltb-false, cases_eq, cases_lt, false≢true}
-use Rattle.rules.proofs.Options.{none_some, same_some}
-use Rattle.rules.proofs.Counting.{found_by}
+use Rattle.lists.proofs.Options.{none_some, same_some}
+use Rattle.lists.proofs.Counting.{found_by}
 use Rattle.last.specs.declared.Letter.{Letter}
 use Rattle.last.specs.Last.{stamped, Mailbox, At, heard, Signed, later, latest_from, latest, Latest}
 

@@ -1,12 +1,12 @@
--- What each of a phase's four steps does to the stations of a lockstep run. Assumes nothing.
+-- What each of a phase's four steps does to the stations of a lockstep run.
 use Rattle.std.specs.Prelude.{◌≡◌, ℕ, suc, ◌+◌, ◌*◌, ◌%◌, ◌<◌, ◌≤◌, Bool, true, false, cond, ◌⊎◌, List, length, is_some, Some, None, Option, ◌==◌, nat_eq, nat_lt, slice_index_or}
 use Rattle.std.proofs.Math.Path.{refl}
 use Rattle.std.proofs.Common.{sym, subst, ◌∙◌, inl, inr, arith}
 use Rattle.std.proofs.lemmas.Bool.{cond_both, eqb-true, eq-eqb, ne_eqb, ltb-true, lt-ltb, le-ltb, lt-leb, or_from, or_left, or_right, cond-true}
 use Rattle.rules.specs.Rule.{Opening, Heard, lockstep, letter_heard, mailbox, outside}
-use Rattle.rules.proofs.Options.{only}
-use Rattle.rules.proofs.Tables.{length_tabulate, get_or_tabulate, at_tabulate}
-use Rattle.rules.proofs.Counting.{count, no_fewer, count_by_tabulate}
+use Rattle.lists.proofs.Options.{only}
+use Rattle.lists.proofs.Tables.{length_tabulate, get_or_tabulate, at_tabulate}
+use Rattle.lists.proofs.Counting.{count, no_fewer, count_by_tabulate}
 use Rattle.last.specs.declared.State.{State}
 use Rattle.last.specs.declared.Letter.{Letter}
 use Rattle.last.specs.Last.{last, phase, coordinator, stamped, Mailbox, At, heard, committed_to, adopting, readied, showing, unmarked, commit, latest, adopt, hull_after}

@@ -1,4 +1,4 @@
--- The invariant after a change of the pool, or of one station. Assumes nothing.
+-- The invariant after a change of the pool, or of one station.
 use Rattle.std.proofs.Common.{◌≡◌, ℕ, ◌<◌, ◌≤◌, Bool, List, length, get_or, set, refl, inl, inr, arith}
 use Rattle.std.proofs.lemmas.List.{get_or-set_same, get_or-set_other, length-set}
 use Rattle.std.proofs.lemmas.Bool.{cases_eq}
@@ -8,7 +8,7 @@ use Rattle.protocol.specs.Calls.{with_pool, with_stations, with_letters, cell, s
 use Rattle.protocol.specs.Tally.{Tally, Slip, heard_in, nowhere}
 use Rattle.protocol.proofs.Invariant.{Inv, Carry, Seat, seat_kept}
 use Rattle.std.specs.List.{slice_get}
-use Rattle.protocol.specs.declared.types.Record.{Record}
+use Rattle.protocol.specs.declared.types.StationRecord.{StationRecord}
 
 module _ {S L : Type 0} (R : Behaviour S L) (values : List ℕ) (B : ℕ) (w : World S L) (t : Tally) (i : Inv R values B w t) where
   -- other slips, with other words in the pool
@@ -33,7 +33,7 @@ module _ {S L : Type 0} (R : Behaviour S L) (values : List ℕ) (B : ℕ) (w : W
 
   -- station p, its row and its notes change
   pub station_changed :
-      (p : ℕ) (s : Record) (letters : List L) (notes : ℕ → ℕ → ℕ → Bool) → p < length values →
+      (p : ℕ) (s : StationRecord) (letters : List L) (notes : ℕ → ℕ → ℕ → Bool) → p < length values →
       ((p' r q : ℕ) → (p' ≡ p → ⊥) → notes p' r q ≡ t.notes p' r q) →
       ((p' q : ℕ) → (p' ≡ p → ⊥) → q ≤ w.n → slice_get letters (cell w.n p' q) ≡ slice_get w.letters (cell w.n p' q)) →
       Seat R values (heard_in t.triples) t.rounds (notes p) s (state_of R w p) (λ q. slice_get letters (cell w.n p q)) (slice_get letters (cell w.n p w.n)) p →

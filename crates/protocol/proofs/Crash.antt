@@ -1,8 +1,8 @@
--- An accepted crash keeps the invariant. Assumes nothing.
+-- An accepted crash keeps the invariant.
 use Rattle.std.proofs.Common.{ℕ, ◌<◌, List, length, set, refl, arith}
 use Rattle.std.proofs.lemmas.Bool.{true≢false}
 use Rattle.rules.specs.Rule.{Behaviour}
-use Rattle.protocol.specs.declared.types.Record.{Record}
+use Rattle.protocol.specs.declared.types.StationRecord.{StationRecord}
 use Rattle.protocol.specs.declared.types.Stand.TheVariants.{Down}
 use Rattle.protocol.specs.declared.types.Step.TheVariants.{Crash}
 use Rattle.protocol.specs.World.{World, station}
@@ -15,7 +15,7 @@ module _ {S L : Type 0} (R : Behaviour S L) (values : List ℕ) (B : ℕ) (w : W
   pub crashed : (p : ℕ) → Follows R values B (step R w (Crash p)).0 (step R w (Crash p)).1 t (tally_accepted R values t (Crash p))
   unfolding step tally_accepted
   crashed p =
-      let s : Record = station w p in
+      let s : StationRecord = station w p in
       attempted R values B w (with_stations R w (set w.stations p (record s { stand = Down })))
       _ 0 t t i (λ fine.
       let b = sound_below R w w.n p _ _ fine in

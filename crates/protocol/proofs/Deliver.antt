@@ -1,4 +1,4 @@
--- An accepted delivery keeps the invariant: the frame is its slip's, and it meets the fate that the tally's note tells. Assumes nothing.
+-- An accepted delivery keeps the invariant: the frame is its slip's, and it meets the fate that the tally's note tells.
 use Rattle.std.proofs.Common.{◌≡◌, ℕ, ◌+◌, ◌*◌, ◌^◌, ◌<◌, ◌≤◌, Bool, true, false, not, ◌&&◌, ◌||◌, T, eqb, ltb, leb, List, [], ◌∷◌, length, get_or, set, Some, None, Err, Option, Result, sym, refl, ◌∙◌, subst, inl, inr, arith}
 use mathlib.Core.Path.{fun_ext}
 use Rattle.std.specs.Result.{result_err}
@@ -7,7 +7,7 @@ use Rattle.std.proofs.lemmas.Bool.{cases_eq, ltb-true, ltb-false, eqb-true, eq-e
 use Rattle.rules.specs.Rule.{Behaviour, Interface, Laws, lockstep}
 use Rattle.frames.specs.Frame.{Frame}
 use Rattle.protocol.specs.declared.types.Held.{Held}
-use Rattle.protocol.specs.declared.types.Record.{Record}
+use Rattle.protocol.specs.declared.types.StationRecord.{StationRecord}
 use Rattle.protocol.specs.declared.types.Fate.{Fate}
 use Rattle.protocol.specs.declared.types.Fate.TheVariants.{Late, Again, Taken, Early}
 use Rattle.protocol.specs.declared.types.Step.TheVariants.{Deliver}
@@ -19,7 +19,7 @@ use Rattle.protocol.specs.declared.refusal.Refusal.TheVariants.{Shut, BufferMism
 use Rattle.protocol.specs.Tally.{Tally, Slip, heard_in, nowhere, swap_out, tally_accepted}
 use Rattle.protocol.proofs.Places.{cell_written, cell_kept}
 use Rattle.frames.proofs.RoundTrip.{reads_back}
-use Rattle.rules.proofs.Options.{none_some, passed, same_some}
+use Rattle.lists.proofs.Options.{none_some, passed, same_some}
 use Rattle.rules.proofs.Runs.{run_fits}
 use Rattle.protocol.proofs.Invariant.{Inv, Brought, Seated, sound_below, Follows, attempted}
 use Rattle.protocol.proofs.Pool.{frame_out}
@@ -70,7 +70,7 @@ module _ {S L : Type 0} (R : Behaviour S L) (values : List ℕ) (B : ℕ) (w : W
   abbrev f : Frame L
   f = (s.sender, s.receiver, s.round, l)
 
-  abbrev old : Record
+  abbrev old : StationRecord
   old = station w s.receiver
 
   same_notes : ((p r q : ℕ) → noting t s p r q ≡ t.notes p r q) → Inv R values B w (noted t s)
@@ -201,7 +201,7 @@ module _ {S L : Type 0} (R : Behaviour S L) (face : Interface R) (laws : Laws R)
       let c = i.carried k (omega (arith, i.frames_are)) in
       let l : L = c.letter in
       let f : Frame L = (s.sender, s.receiver, s.round, l) in
-      let old : Record = station w s.receiver in
+      let old : StationRecord = station w s.receiver in
       let v : World S L = without_frame R w k in
       subst (λ o. Follows R values B (result_err (outcome None o).0) (outcome None o).1 t (noted t₁ s)) (sym (frame_is h))
       (attempted R values B w (received R v f (fate_of R w f)) (receiver_refusal R w f) (fate_of R w f) t (noted t₁ s) i (λ fine.

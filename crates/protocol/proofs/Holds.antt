@@ -1,7 +1,7 @@
--- The sender of a held letter of the station's own round. Assumes nothing.
+-- The sender of a held letter of the station's own round.
 use Rattle.std.proofs.Common.{◌≡◌, ℕ, eqb, Some, None, Option, sym, refl, ◌∙◌}
 use Rattle.std.proofs.lemmas.Bool.{eqb-true, eq-eqb}
-use Rattle.rules.proofs.Options.{none_some, only, same_some}
+use Rattle.lists.proofs.Options.{none_some, only, same_some}
 use Rattle.protocol.specs.declared.types.Held.{Held}
 use Rattle.protocol.specs.Calls.{due}
 

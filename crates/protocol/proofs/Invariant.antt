@@ -1,4 +1,4 @@
--- How a world and a tally stand to one another after the same calls, and what stays of that as rounds go by. Assumes nothing.
+-- How a world and a tally stand to one another after the same calls, and what stays of that as rounds go by.
 use Rattle.std.proofs.Common.{◌≡◌, ℕ, ◌+◌, ◌-◌, ◌*◌, ◌<◌, ◌≤◌, Bool, true, false, cond, ◌&&◌, ◌||◌, eqb, leb, List, [], ◌∷◌, ◌++◌, map, length, get_or, replicate, Some, None, Option, sym, refl, ◌∙◌, arith}
 use Rattle.std.specs.Result.{result_err}
 use Rattle.std.specs.List.{slice_get}
@@ -6,7 +6,7 @@ use Rattle.std.proofs.lemmas.Bool.{or_parts, ltb-false, leb-false, eqb-true, not
 use Rattle.rules.specs.Rule.{Behaviour, Heard, lockstep}
 use Rattle.frames.specs.Frame.{pack_frame}
 use Rattle.protocol.specs.declared.types.Held.{Held}
-use Rattle.protocol.specs.declared.types.Record.{Record}
+use Rattle.protocol.specs.declared.types.StationRecord.{StationRecord}
 use Rattle.protocol.specs.declared.refusal.Refusal.{Refusal}
 use Rattle.protocol.specs.declared.refusal.Refusal.TheVariants.{Shut, BufferMismatch}
 use Rattle.protocol.specs.World.{World, station}
@@ -14,7 +14,7 @@ use Rattle.protocol.specs.Calls.{is_fresh, is_down, cell, state_of, attempt, mis
 use Rattle.protocol.specs.Tally.{Tally, Slip, Triple, heard_in, nowhere}
 use Rattle.protocol.specs.Guarantee.{entry}
 use Rattle.rules.proofs.Runs.{Known}
-use Rattle.rules.proofs.Options.{passed}
+use Rattle.lists.proofs.Options.{passed}
 use Rattle.protocol.proofs.Words.{Whole}
 
 -- the note that a held letter is
@@ -42,7 +42,7 @@ module _ {S L : Type 0} (R : Behaviour S L) (values : List ℕ) where
     pub brought : Brought H rounds (Some letter) s.sender s.round s.receiver
 
   -- a station that is not down: its notes, the letters in its row, and its held letter in the row's last cell
-  pub record Live (H : Heard) (rounds : ℕ → ℕ) (notes : ℕ → ℕ → Bool) (s : Record) (row : ℕ → Option L) (last : Option L) (p : ℕ) : Type 0 where
+  pub record Live (H : Heard) (rounds : ℕ → ℕ) (notes : ℕ → ℕ → Bool) (s : StationRecord) (row : ℕ → Option L) (last : Option L) (p : ℕ) : Type 0 where
     pub places : length s.heard ≡ 16
     pub noted : (r q : ℕ) → rounds p ≤ r → notes r q ≡ ((eqb r (rounds p) && get_or s.heard q false) || held s.hold r q)
     pub marked : (q : ℕ) → get_or s.heard q false ≡ true → Brought H rounds (row q) q (rounds p) p
@@ -51,7 +51,7 @@ module _ {S L : Type 0} (R : Behaviour S L) (values : List ℕ) where
     pub later : is_fresh s.stand ≡ false → (h : Held) → s.hold ≡ Some h → rounds p < h.round
     pub silent : is_fresh s.stand ≡ true → (q : ℕ) → get_or s.heard q false ≡ false
 
-  pub record Seat (H : Heard) (rounds : ℕ → ℕ) (notes : ℕ → ℕ → Bool) (s : Record) (x : S) (row : ℕ → Option L) (last : Option L) (p : ℕ) : Type 0 where
+  pub record Seat (H : Heard) (rounds : ℕ → ℕ) (notes : ℕ → ℕ → Bool) (s : StationRecord) (x : S) (row : ℕ → Option L) (last : Option L) (p : ℕ) : Type 0 where
     pub round : s.round ≡ rounds p
     pub limit : rounds p ≤ 4095
     pub state : x ≡ lockstep R values H (rounds p) p
@@ -98,7 +98,7 @@ module _ {S L : Type 0} (R : Behaviour S L) (values : List ℕ) where
 
     -- a station at which nothing changes
     pub seat_kept :
-        (notes notes' : ℕ → ℕ → Bool) (s s' : Record) (x x' : S) (row row' : ℕ → Option L) (last last' : Option L) (p : ℕ) →
+        (notes notes' : ℕ → ℕ → Bool) (s s' : StationRecord) (x x' : S) (row row' : ℕ → Option L) (last last' : Option L) (p : ℕ) →
         rounds' p ≡ rounds p → ((r q : ℕ) → notes' r q ≡ notes r q) → s' ≡ s → x' ≡ x → ((q : ℕ) → q < length values → row' q ≡ row q) → last' ≡ last →
         Seat H rounds notes s x row last p → Seat H' rounds' notes' s' x' row' last' p
     seat_kept notes notes' s s' x x' row row' last last' p same noted es ex er el seat = rw (es, ex, el) (record {

@@ -1,4 +1,4 @@
--- An accepted drop or repeat keeps the invariant. Assumes nothing.
+-- An accepted drop or repeat keeps the invariant.
 use Rattle.std.proofs.Common.{◌≡◌, ℕ, ◌+◌, ◌-◌, ◌<◌, ◌≤◌, false, eqb, List, [], ◌∷◌, ◌++◌, length, get_or, set, sym, inl, inr, arith}
 use Rattle.std.proofs.lemmas.List.{length_push, get_or_push, get_or_append_left, get_or-set_same, get_or-set_other}
 use Rattle.std.proofs.lemmas.Bool.{cases_eq, eqb-false}
@@ -10,7 +10,7 @@ use Rattle.protocol.specs.Calls.{step, with_pool, without_frame}
 use Rattle.protocol.specs.Tally.{Tally, Slip, nowhere, swap_out, tally_accepted}
 use Rattle.protocol.proofs.Places.{length_out, origin}
 use Rattle.protocol.proofs.Change.{pool_changed}
-use Rattle.rules.proofs.Options.{passed}
+use Rattle.lists.proofs.Options.{passed}
 use Rattle.protocol.proofs.Invariant.{Inv, Matched, sound_below, Follows, attempted}
 
 module _ {S L : Type 0} (R : Behaviour S L) (values : List ℕ) (B : ℕ) (w : World S L) (t : Tally) (i : Inv R values B w t) where

@@ -1,21 +1,21 @@
--- An accepted send keeps the invariant: its frames are the tally's slips, and a held letter of the station's round is taken in. Assumes nothing.
+-- An accepted send keeps the invariant: its frames are the tally's slips, and a held letter of the station's round is taken in.
 use Rattle.std.proofs.Common.{◌≡◌, ℕ, zero, suc, ◌+◌, ◌-◌, ◌*◌, ◌<◌, ◌≤◌, Bool, true, false, ◌&&◌, ◌||◌, eqb, ltb, List, ◌∷◌, ◌++◌, length, get_or, set, Some, None, Option, sym, refl, ap, ◌∙◌, subst, inl, inr, arith}
 use Rattle.std.proofs.lemmas.List.{length-set, length-append, get_or_append_left, get_or-append_right, get_or-set_same, get_or-set_other}
 use Rattle.std.proofs.lemmas.Bool.{cases_eq, cases_lt, ltb-false, eq-eqb, ne_eqb, true≢false, false≢true, and_right}
 use Rattle.rules.specs.Rule.{Behaviour, lockstep}
-use Rattle.rules.specs.Lists.{put}
+use Rattle.lists.specs.Lists.{put}
 use Rattle.frames.specs.Frame.{pack_frame}
 use Rattle.protocol.specs.declared.types.Held.{Held}
-use Rattle.protocol.specs.declared.types.Record.{Record}
+use Rattle.protocol.specs.declared.types.StationRecord.{StationRecord}
 use Rattle.protocol.specs.declared.types.Stand.{Stand}
 use Rattle.protocol.specs.declared.types.Stand.TheVariants.{Fresh, Listening, Down}
 use Rattle.protocol.specs.declared.types.Step.TheVariants.{Send}
 use Rattle.protocol.specs.World.{World, station}
 use Rattle.protocol.specs.Calls.{step, with_pool, with_stations, with_letters, cell, state_of, is_fresh, is_listening, is_down, frames_from, frames_of, send_refusal, sent, due, listened, taken_in}
 use Rattle.protocol.specs.Tally.{Tally, Slip, heard_in, nowhere, slips_from, tally_accepted}
-use Rattle.rules.proofs.Tables.{get_or_put_below, get_or_put_in}
+use Rattle.lists.proofs.Tables.{get_or_put_below, get_or_put_in}
 use Rattle.protocol.proofs.Places.{nth_some, cell_within, cell_written, cell_kept}
-use Rattle.rules.proofs.Options.{none_some, passed}
+use Rattle.lists.proofs.Options.{none_some, passed}
 use Rattle.protocol.proofs.Holds.{due_some, due_none}
 use Rattle.protocol.proofs.Invariant.{Inv, Carry, Seated, Matched, sound_below, Follows, attempted}
 use Rattle.protocol.proofs.Change.{pool_changed, station_changed}
@@ -114,7 +114,7 @@ same_note x r k q s e hs h silent = elim (cases_eq q s) [
 
 module _ {S L : Type 0} (R : Behaviour S L) (values : List ℕ) (few : length values ≤ 16) (B : ℕ) (w : World S L) (t : Tally) (i : Inv R values B w t) (letters : w.n * (w.n + 1) ≤ length w.letters)
     (p : ℕ) (h : p < length values) (up : is_down (station w p).stand ≡ false) (fresh : is_fresh (station w p).stand ≡ true) where
-  abbrev old : Record
+  abbrev old : StationRecord
   old = station w p
 
   abbrev plain : World S L

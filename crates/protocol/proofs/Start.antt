@@ -1,4 +1,4 @@
--- An opened shed and the empty tally keep the invariant. Assumes nothing.
+-- An opened shed and the empty tally keep the invariant.
 use Rattle.std.proofs.Common.{◌≡◌, ℕ, ◌+◌, ◌*◌, ◌<◌, ◌≤◌, false, not, ◌&&◌, ◌||◌, eqb, ltb, List, length, get_or, None, sym, refl, ◌∙◌, arith}
 use native.Mathlib.Nat.{sub-zero}
 use Rattle.std.proofs.lemmas.List.{get_or-replicate}
@@ -7,8 +7,8 @@ use Rattle.rules.specs.Rule.{Behaviour, Interface, lockstep}
 use Rattle.protocol.specs.World.{World, blank, station}
 use Rattle.protocol.specs.Calls.{open_refusal, opened, state_of}
 use Rattle.protocol.specs.Tally.{start}
-use Rattle.rules.proofs.Tables.{get_or_written, get_or_replicate_all}
-use Rattle.rules.proofs.Options.{passed, none_some}
+use Rattle.lists.proofs.Tables.{get_or_written, get_or_replicate_all}
+use Rattle.lists.proofs.Options.{passed, none_some}
 use Rattle.protocol.proofs.Invariant.{Inv, Seated}
 
 -- what an accepted opening says

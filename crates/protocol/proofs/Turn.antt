@@ -1,24 +1,24 @@
--- An accepted turn keeps the invariant: the new entry is the tally's triple, and the new state is the lockstep run's. Assumes nothing.
+-- An accepted turn keeps the invariant: the new entry is the tally's triple, and the new state is the lockstep run's.
 use Rattle.std.proofs.Common.{◌≡◌, ℕ, suc, ◌+◌, ◌-◌, ◌<◌, ◌≤◌, true, false, cond, ◌&&◌, eqb, List, [], ◌∷◌, ◌++◌, map, length, get_or, set, replicate, Some, None, Option, sym, refl, ap, ◌∙◌, inl, inr, add-one, arith}
 use Rattle.std.specs.List.{slice_get}
 use Rattle.std.proofs.Math.Bool.{or-false}
 use Rattle.std.proofs.lemmas.List.{length-set, length_push, length-map, length-append, length-replicate, get_or-set_same, get_or-set_other, ext_get_or, set_at, map_push, append_assoc}
 use Rattle.std.proofs.lemmas.Bool.{cases_eq, cases_Bool, eqb-true, eqb-false, eq-eqb, ne_eqb, true≢false, false≢true, cond_both, cond-true, cond-false, and_parts, and_left, and_right}
-use Rattle.rules.specs.Lists.{tabulate}
+use Rattle.lists.specs.Lists.{tabulate}
 use Rattle.rules.specs.Rule.{Behaviour, Heard, letter_heard, lockstep}
 use Rattle.frames.specs.Book.{pack_entry}
 use Rattle.protocol.specs.declared.types.Held.{Held}
-use Rattle.protocol.specs.declared.types.Record.{Record}
+use Rattle.protocol.specs.declared.types.StationRecord.{StationRecord}
 use Rattle.protocol.specs.declared.types.Stand.TheVariants.{Fresh}
 use Rattle.protocol.specs.declared.types.Step.TheVariants.{Turn}
 use Rattle.protocol.specs.World.{World, station, blank}
 use Rattle.protocol.specs.Calls.{step, cell, state_of, is_fresh, is_down, mailbox_of, turn_refusal, turned}
 use Rattle.protocol.specs.Tally.{Tally, Triple, heard_in, tally_accepted}
 use Rattle.protocol.specs.Guarantee.{entry}
-use Rattle.rules.proofs.Tables.{length_tabulate, get_or_tabulate, get_or_replicate_all, tabulate_same}
+use Rattle.lists.proofs.Tables.{length_tabulate, get_or_tabulate, get_or_replicate_all, tabulate_same}
 use Rattle.protocol.proofs.Words.{Whole}
 use Rattle.rules.proofs.Runs.{Known, run_grows}
-use Rattle.rules.proofs.Options.{passed}
+use Rattle.lists.proofs.Options.{passed}
 use Rattle.protocol.proofs.Invariant.{Inv, Live, Seat, Seated, Over, Grows, held, seat_kept, carry_kept, brought_kept, Matched, sound_below, Follows, attempted}
 
 -- ---- one more triple
@@ -99,7 +99,7 @@ module _ {S L : Type 0} (R : Behaviour S L) (values : List ℕ) (t : Tally) (kno
 
 module _ {S L : Type 0} (R : Behaviour S L) (values : List ℕ) (B : ℕ) (w : World S L) (t : Tally) (i : Inv R values B w t)
     (p : ℕ) (h : p < length values) (up : is_down (station w p).stand ≡ false) (ready : is_fresh (station w p).stand ≡ false) where
-  abbrev s : Record
+  abbrev s : StationRecord
   s = station w p
 
   abbrev rd : ℕ
@@ -167,7 +167,7 @@ module _ {S L : Type 0} (R : Behaviour S L) (values : List ℕ) (B : ℕ) (w : W
       let step : R.next w.n p s.round (state_of R w p) (mailbox_of R w p) ≡ R.next (length values) p rd (lockstep R values Hn rd p) (tabulate (length values) (letter_heard R (length values) p rd (Hn p rd) (lockstep R values Hn rd))) = cc in
       step ∙ ap (λ k. lockstep R values Hn k p) (sym e)
 
-  abbrev then : Record
+  abbrev then : StationRecord
   then = record s { round = s.round + 1; stand = Fresh; heard = replicate 16 false }
 
   seat_then :

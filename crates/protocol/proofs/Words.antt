@@ -1,4 +1,4 @@
--- The book's words name the senders that its triples name. Assumes nothing.
+-- The book's words name the senders that its triples name.
 use Rattle.std.proofs.Common.{◌≡◌, ℕ, ◌≤◌, List, [], ◌∷◌, ◌++◌, map, length, replicate}
 use Rattle.frames.specs.Book.{book_heard}
 use Rattle.frames.proofs.Entries.{entry_bit, entry_station, entry_round}

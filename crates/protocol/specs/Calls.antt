@@ -1,9 +1,9 @@
--- What each call answers and leaves, by cases. Assumes nothing.
+-- What each call answers and leaves, by cases.
 use Rattle.std.specs.Prelude.{ℕ, zero, suc, ◌+◌, ◌-◌, ◌*◌, Bool, true, false, cond, not, ◌||◌, List, [], ◌∷◌, ◌++◌, length, get_or, set, replicate, Some, None, Ok, Err, Option, Result, ◌==◌, nat_le, nat_lt, slice_index, slice_index_or, slice_set}
-use Rattle.rules.specs.Lists.{tabulate, written, put}
+use Rattle.lists.specs.Lists.{tabulate, written, put}
 use Rattle.rules.specs.Rule.{Behaviour}
 use Rattle.protocol.specs.declared.types.Held.{Held}
-use Rattle.protocol.specs.declared.types.Record.{Record}
+use Rattle.protocol.specs.declared.types.StationRecord.{StationRecord}
 use Rattle.protocol.specs.declared.types.Stand.{Stand}
 use Rattle.protocol.specs.declared.types.Stand.TheVariants.{Fresh, Listening, Down}
 use Rattle.protocol.specs.declared.refusal.Refusal.{Refusal}
@@ -55,7 +55,7 @@ due None k = None
 due (Some h) k = cond (h.round == k) (Some h.sender) None
 
 -- the record of a station that begins to listen, and the sender of the held letter that it takes in
-abbrev pub listened : Record → Option ℕ → Record
+abbrev pub listened : StationRecord → Option ℕ → StationRecord
 listened s None = record s { stand = Listening }
 listened s (Some q) = record s { stand = Listening; heard = slice_set s.heard q true; hold = None }
 
@@ -73,19 +73,19 @@ abbrev pub mail : {L : Type 0} → (n p : ℕ) → List Bool → List L → ℕ 
 mail n p heard letters q = cond (slice_index_or heard q false) (slice_get letters (cell n p q)) None
 
 -- what becomes of a frame of round k from q at a station
-abbrev pub fate : Record → (q k : ℕ) → Fate
+abbrev pub fate : StationRecord → (q k : ℕ) → Fate
 fate s q k = cond (nat_lt k s.round) Late (cond (nat_lt s.round k) Early (cond (slice_index_or s.heard q false) Again Taken))
 
 -- what is asked of a station that a frame comes to
-abbrev pub reception_refusal : Record → Option Refusal
+abbrev pub reception_refusal : StationRecord → Option Refusal
 reception_refusal s = first_refusal ((is_down s.stand, StationDown) ∷ (is_fresh s.stand, NotListening) ∷ (holds s.hold, HoldsLetter) ∷ [])
 
 -- a frame's fate, or why the station does not take it
-abbrev pub judged : Record → (q k : ℕ) → Result Fate Refusal
+abbrev pub judged : StationRecord → (q k : ℕ) → Result Fate Refusal
 judged s q k = elim (reception_refusal s) [ Some r ↦ Err r | None ↦ Ok (fate s q k) ]
 
 -- the records when a frame has met its fate: a sender is heard, or a letter is held
-abbrev pub received_stations : {L : Type 0} → List Record → Frame L → Fate → List Record
+abbrev pub received_stations : {L : Type 0} → List StationRecord → Frame L → Fate → List StationRecord
 received_stations rs f Late = rs
 received_stations rs f Again = rs
 received_stations rs f Taken = slice_set rs f.1 (hearing (get_or rs f.1 blank) f.0)
@@ -100,7 +100,7 @@ received_letters n ls f Early = slice_set ls (cell n f.1 n) f.3
 
 module _ {S L : Type 0} (R : Behaviour S L) where
   -- ---- changes of a world
-  abbrev pub with_stations : World S L → List Record → World S L
+  abbrev pub with_stations : World S L → List StationRecord → World S L
   with_stations w x = record w { stations = x }
 
   abbrev pub with_pool : World S L → ℕ → List ℕ → World S L
@@ -185,7 +185,7 @@ module _ {S L : Type 0} (R : Behaviour S L) where
   -- p listens; a held letter of its own round is taken in
   abbrev pub listening : World S L → ℕ → World S L
   listening w p =
-      let s : Record = station w p in
+      let s : StationRecord = station w p in
       with_letters (with_stations w (slice_set w.stations p (listened s (due s.hold s.round)))) (taken_in w.n p (due s.hold s.round) w.letters)
 
   abbrev pub sent : World S L → ℕ → World S L
@@ -243,7 +243,7 @@ module _ {S L : Type 0} (R : Behaviour S L) where
 
   abbrev pub turn_refusal : World S L → ℕ → Option Refusal
   turn_refusal w p =
-      let s : Record = station w p in
+      let s : StationRecord = station w p in
       first_refusal (
       ((w.n == 0), Shut) ∷
       (mismatched w, BufferMismatch) ∷
@@ -255,7 +255,7 @@ module _ {S L : Type 0} (R : Behaviour S L) where
 
   abbrev pub turned : World S L → ℕ → World S L
   turned w p =
-      let s : Record = station w p in
+      let s : StationRecord = station w p in
       record w {
         entries = w.entries + 1;
         stations = slice_set w.stations p (record s { round = s.round + 1; stand = Fresh; heard = replicate 16 false });
@@ -277,7 +277,7 @@ module _ {S L : Type 0} (R : Behaviour S L) where
 
   abbrev pub crash_call : World S L → ℕ → Result ℕ Refusal × World S L
   crash_call w p =
-      let s : Record = station w p in
+      let s : StationRecord = station w p in
       attempt w (crash_refusal w p)
       0
       (with_stations w (slice_set w.stations p (record s { stand = Down })))
@@ -288,7 +288,7 @@ module _ {S L : Type 0} (R : Behaviour S L) where
 
   abbrev pub look_call : World S L → ℕ → Result Sight Refusal × World S L
   look_call w p =
-      let s : Record = station w p in
+      let s : StationRecord = station w p in
       attempt w (look_refusal w p) (record { stand = s.stand; round = s.round; hull = R.hull (state_of w p) }) w
 
   -- ---- lists of calls

@@ -1,4 +1,4 @@
--- What is found after every list of a planner's calls, for every rule that keeps its laws. Assumes nothing.
+-- What is found after every list of a planner's calls, for every rule that keeps its laws.
 use Rattle.std.specs.Prelude.{◌≡◌, ℕ, ◌+◌, ◌-◌, ◌^◌, ◌<◌, ◌≤◌, Bool, false, cond, List, [], ◌∷◌, ◌++◌, map, length, replicate, Some, None, Option, ◌==◌, slice_index}
 use Rattle.rules.specs.Rule.{Behaviour, Interface, Laws, lockstep}
 use Rattle.protocol.specs.declared.refusal.Refusal.{Refusal}

@@ -1,4 +1,4 @@
--- The refusals and their numbers. Assumes nothing.
+-- The refusals and their numbers.
 use Rattle.std.specs.Prelude.{ℕ, Bool, cond, List, [], ◌∷◌, Some, None, Option}
 use Rattle.frames.specs.declared.pool.PoolRefusal.{PoolRefusal}
 use Rattle.frames.specs.declared.pool.PoolRefusal.TheVariants as pool

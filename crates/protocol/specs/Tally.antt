@@ -1,7 +1,6 @@
 -- The tally: what a list of calls should come to, told from the calls and from which were refused, without frames, cells or heard marks.
--- Assumes nothing.
 use Rattle.std.specs.Prelude.{ℕ, zero, suc, ◌+◌, ◌-◌, Bool, false, cond, not, ◌&&◌, ◌||◌, List, [], ◌∷◌, ◌++◌, length, get_or, take, Some, None, Option, ◌==◌, nat_lt, slice_index_or, slice_set}
-use Rattle.rules.specs.Lists.{tabulate}
+use Rattle.lists.specs.Lists.{tabulate}
 use Rattle.rules.specs.Rule.{Behaviour, Heard, lockstep}
 use Rattle.protocol.specs.declared.refusal.Refusal.{Refusal}
 use Rattle.protocol.specs.declared.types.Step.{Step}

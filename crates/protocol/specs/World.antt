@@ -1,7 +1,7 @@
--- The shed and its four buffers as one value. Assumes nothing.
+-- The shed and its four buffers as one value.
 use Rattle.std.specs.Prelude.{ℕ, true, false, List, replicate, Some, None, slice_index_or, slice_set}
 use Rattle.protocol.specs.declared.types.Held.{Held}
-use Rattle.protocol.specs.declared.types.Record.{Record}
+use Rattle.protocol.specs.declared.types.StationRecord.{StationRecord}
 use Rattle.protocol.specs.declared.types.Stand.TheVariants.{Fresh}
 
 pub record World (S L : Type 0) : Type 0 where
@@ -14,7 +14,7 @@ pub record World (S L : Type 0) : Type 0 where
   pub frames : ℕ
   pub entries : ℕ
   -- a record for each station
-  pub stations : List Record
+  pub stations : List StationRecord
   -- the four buffers: a state for each station, a row of n + 1 letters for each station, and two of words
   pub states : List S
   pub letters : List L
@@ -22,18 +22,18 @@ pub record World (S L : Type 0) : Type 0 where
   pub book : List ℕ
 
 -- a station in round 0 that has sent, heard and held nothing
-abbrev pub blank : Record
+abbrev pub blank : StationRecord
 blank = record { round = 0; stand = Fresh; heard = replicate 16 false; hold = None }
 
 -- the record of a station that heard q, and of one that holds a letter
-abbrev pub hearing : Record → ℕ → Record
+abbrev pub hearing : StationRecord → ℕ → StationRecord
 hearing s q = record s { heard = slice_set s.heard q true }
 
-abbrev pub holding : Record → Held → Record
+abbrev pub holding : StationRecord → Held → StationRecord
 holding s h = record s { hold = Some h }
 
 -- the record of station p
-abbrev pub station : {S L : Type 0} → World S L → ℕ → Record
+abbrev pub station : {S L : Type 0} → World S L → ℕ → StationRecord
 station w p = slice_index_or w.stations p blank
 
 -- a new shed with four buffers

@@ -17,7 +17,7 @@ pub struct Held {
 
 // A station: its round, its stand, the senders that it heard in that round, and the letter that it holds or none.
 #[derive(Clone, Copy, Debug, PartialEq, Eq)]
-pub struct Record {
+pub struct StationRecord {
     pub round: u16,
     pub stand: Stand,
     pub heard: [bool; 16],

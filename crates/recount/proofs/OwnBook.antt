@@ -1,4 +1,4 @@
--- Recount over a shed's own book gives the states of its stations. Assumes nothing.
+-- Recount over a shed's own book gives the states of its stations.
 use Rattle.std.proofs.Common.{◌≡◌, ℕ, ◌+◌, ◌-◌, ◌^◌, ◌<◌, ◌≤◌, ltb, List, ◌++◌, map, length, get_or, take, replicate, None, Ok, Result, sym, ap, ◌∙◌, inl, inr, arith}
 use mathlib.Core.Path.{fun_ext}
 use lib.ListN.{length-replicate}
@@ -7,7 +7,7 @@ use Rattle.std.proofs.lemmas.List.{take-replicate, take_all, length-map}
 use Rattle.std.proofs.lemmas.Bool.{cases_lt}
 use Rattle.std.proofs.lemmas.Bool.Decides.{nat_tests}
 use Rattle.rules.specs.Rule.{Behaviour, Interface, Laws, Heard, lockstep}
-use Rattle.rules.proofs.Tables.{get_or_written}
+use Rattle.lists.proofs.Tables.{get_or_written}
 use Rattle.frames.specs.Book.{book_heard}
 use Rattle.frames.proofs.Sets.{zeros_after}
 use Rattle.protocol.specs.declared.refusal.Refusal.{Refusal}

@@ -1,9 +1,9 @@
--- The lockstep run, from a round to the next. Assumes nothing.
+-- The lockstep run, from a round to the next.
 use Rattle.std.proofs.Common.{◌≡◌, ℕ, suc, ◌+◌, ◌<◌, ◌≤◌, Bool, List, ◌++◌, length, get_or, take, drop, sym, refl, ap, ◌∙◌, add-one, arith}
-use Rattle.rules.specs.Lists.{tabulate, written, put}
+use Rattle.lists.specs.Lists.{tabulate, written, put}
 use Rattle.rules.specs.Rule.{Behaviour, next_state, lockstep}
 use Rattle.rules.proofs.Runs.{next_same}
-use Rattle.rules.proofs.Tables.{tabulate_same, put_table, take_written, get_or_written, drop_written}
+use Rattle.lists.proofs.Tables.{tabulate_same, put_table, take_written, get_or_written, drop_written}
 use Rattle.frames.specs.Book.{book_heard, hears, heard_sets}
 use Rattle.frames.proofs.Sets.{sets_hear}
 use Rattle.recount.specs.Recount.{state_in, state_after, Advances, recounted}

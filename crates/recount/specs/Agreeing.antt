@@ -1,4 +1,4 @@
--- Recount and the shed agree, after every list of a planner's calls. Assumes nothing.
+-- Recount and the shed agree, after every list of a planner's calls.
 use Rattle.std.specs.Prelude.{◌≡◌, ℕ, ◌+◌, ◌<◌, ◌≤◌, List, length, take, None, Ok, Result, slice_index_or}
 use Rattle.rules.specs.Rule.{Behaviour}
 use Rattle.protocol.specs.declared.refusal.Refusal.{Refusal}

@@ -1,6 +1,6 @@
--- What one lockstep round and recount answer and leave. Assumes nothing.
+-- What one lockstep round and recount answer and leave.
 use Rattle.std.specs.Prelude.{◌≡◌, ℕ, suc, ◌+◌, ◌<◌, min, Bool, ◌||◌, List, [], ◌∷◌, length, Option, Result, ◌==◌, nat_le, nat_lt, slice_index_or}
-use Rattle.rules.specs.Lists.{written}
+use Rattle.lists.specs.Lists.{written}
 use Rattle.rules.specs.Rule.{Behaviour, Heard, letter_heard, next_state, lockstep}
 use Rattle.frames.specs.Book.{book_heard, hears}
 use Rattle.protocol.specs.declared.refusal.Refusal.{Refusal}

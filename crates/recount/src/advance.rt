@@ -1,6 +1,6 @@
 // The states of all stations after a round of the lockstep run, from those before it.
 ghost use Rattle.std.specs.Prelude.{◌≡◌, ◌<◌, ◌≤◌, if◌then◌else◌, length, nat_lt, take, None};
-ghost use Rattle.rules.specs.Lists.{tabulate, written};
+ghost use Rattle.lists.specs.Lists.{tabulate, written};
 ghost use Rattle.recount.specs.Recount.{letter_in, state_after};
 
 use rules::Rule;

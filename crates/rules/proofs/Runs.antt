@@ -1,10 +1,9 @@
 -- The lockstep run: what it depends on, that its states and letters stay within their ranges, and that hulls stay.
--- Assumes nothing.
 use Rattle.std.proofs.Common.{◌≡◌, ℕ, zero, suc, ◌^◌, ◌<◌, ◌≤◌, Bool, true, T, List, length, get_or, Some, refl, ap, ◌∙◌, subst, inl, inr, arith}
 use Rattle.std.proofs.lemmas.Bool.{cases_eq, cases_Bool}
 use Rattle.rules.specs.Rule.{Behaviour, Interface, Stable, Heard, MailFits, letter_heard, mailbox, next_state, lockstep}
-use Rattle.rules.proofs.Options.{only}
-use Rattle.rules.proofs.Tables.{tabulate_same, at_tabulate}
+use Rattle.lists.proofs.Options.{only}
+use Rattle.lists.proofs.Tables.{tabulate_same, at_tabulate}
 
 -- the next state depends on whom the station hears below n, on its own state and on the states of those
 pub next_same :

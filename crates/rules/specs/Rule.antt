@@ -1,9 +1,9 @@
--- A voting rule as functions, its lockstep run, and what every rule has to show. Assumes nothing.
+-- A voting rule as functions, its lockstep run, and what every rule has to show.
 use Rattle.std.specs.Prelude.{◌≡◌, ℕ, zero, suc, ◌^◌, ◌<◌, ◌≤◌, Bool, cond, ◌||◌, T, List, length, Some, None, Option, ◌==◌, ◌≢◌, nat_le, nat_lt, slice_index, slice_index_or}
 use Rattle.std.specs.Borrow.{Array, RattleType}
 use Rattle.std.specs.Mem.{FitsInMemory}
 use Rattle.std.specs.contracts.option.Option.{the_row as option}
-use Rattle.rules.specs.Lists.{tabulate}
+use Rattle.lists.specs.Lists.{tabulate}
 
 -- a mailbox of sixteen places, each with such a letter or nothing, fits in memory
 abbrev pub MailboxRoom : RattleType → Type 0

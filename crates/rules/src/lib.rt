@@ -2,7 +2,7 @@
 #![tactic(auto)]
 
 ghost use Rattle.std.specs.Prelude.{◌≡◌, ◌^◌, ◌<◌, ◌≤◌, length, is_some, count_by, slice_index};
-ghost use Rattle.rules.specs.Lists.{tabulate, put};
+ghost use Rattle.lists.specs.Lists.{tabulate, put};
 ghost use Rattle.rules.specs.Rule.{Behaviour, Interface, Laws, MailboxRoom, outside};
 
 // The last round that a station can be in.

@@ -1,11 +1,11 @@
--- A schedule that was read opens its shed, and what is printed of a text follows. Assumes nothing.
+-- A schedule that was read opens its shed, and what is printed of a text follows.
 use Rattle.std.proofs.Common.{◌≡◌, ℕ, ◌+◌, ◌*◌, ◌<◌, ◌≤◌, List, length, replicate, None, Ok, Err, vec_items, Result, Vec, sym, refl, ap, ◌∙◌, subst, mul-le-mul, arith}
 use Rattle.std.specs.declared.alloc.Global.{Global}
 use Rattle.std.proofs.lemmas.List.{length-replicate}
 use Rattle.rules.specs.Rule.{Behaviour}
 use Rattle.third.specs.Third.{third}
 use Rattle.last.specs.Last.{last}
-use Rattle.rules.proofs.Options.{none_some}
+use Rattle.lists.proofs.Options.{none_some}
 use Rattle.protocol.specs.declared.types.Step.{Step}
 use Rattle.protocol.specs.Calls.{open_refusal}
 use Rattle.protocol.specs.declared.refusal.Refusal.{Refusal}

@@ -1,9 +1,9 @@
--- A text is answered by a fault exactly where its lines have that fault; and the laws of reading. Assumes nothing.
+-- A text is answered by a fault exactly where its lines have that fault; and the laws of reading.
 use Rattle.std.proofs.lemmas.Bool.Decides.{nat_tests}
 use Rattle.std.proofs.Common.{◌≡◌, ℕ, zero, suc, ◌+◌, ◌<◌, ◌≤◌, Bool, true, false, cond, ◌&&◌, eqb, ltb, ◌⊎◌, List, [], ◌∷◌, ◌++◌, length, is_some, Some, None, Ok, Err, Option, Result, sym, refl, ap, ◌∙◌, subst, inl, inr, append_assoc, arith}
 use Rattle.std.specs.List.{flat_map, AllByRecursion}
 use Rattle.std.proofs.lemmas.Bool.{eqb-false, ltb-true, ltb-false, cond-true, cond-false, cases_Bool, false≢true}
-use Rattle.rules.proofs.Options.{none_some, same_some}
+use Rattle.lists.proofs.Options.{none_some, same_some}
 use Rattle.schedule.specs.declared.types.Fault.{Fault}
 use Rattle.schedule.specs.declared.types.Fault.TheVariants.{TooLong, WrongRule, WrongValues, WrongStep, Unfinished}
 use Rattle.schedule.specs.Reading.{Plan, onto_first, pieces, all_but_last, last_of, finished, unfinished, rule_line, values_line, step_line, right, wrong as fault_at, first_wrong, plan_in, unless, read_lines, read_text}

@@ -1,10 +1,10 @@
--- A run that was carried out, and the listing that is made of it. Assumes nothing.
+-- A run that was carried out, and the listing that is made of it.
 use Rattle.std.proofs.Common.{◌≡◌, ℕ, zero, suc, ◌+◌, ◌-◌, ◌<◌, ◌≤◌, List, map, length, take, replicate, Some, None, Err, Option, sym, ap, ◌∙◌, arith}
 use Rattle.std.proofs.lemmas.List.{length-append, length-map}
-use Rattle.rules.specs.Lists.{tabulate}
+use Rattle.lists.specs.Lists.{tabulate}
 use Rattle.rules.specs.Rule.{Behaviour, Interface}
-use Rattle.rules.proofs.Options.{none_some}
-use Rattle.rules.proofs.Tables.{length_tabulate}
+use Rattle.lists.proofs.Options.{none_some}
+use Rattle.lists.proofs.Tables.{length_tabulate}
 use Rattle.protocol.specs.declared.refusal.Refusal.{Refusal}
 use Rattle.protocol.specs.declared.types.Sight.{Sight}
 use Rattle.protocol.specs.declared.types.Step.{Step}

@@ -1,4 +1,4 @@
--- Where the line of a step ends, if a text begins with one. Assumes nothing.
+-- Where the line of a step ends, if a text begins with one.
 use Rattle.std.proofs.Common.{◌≡◌, ℕ, ◌+◌, ◌-◌, ◌<◌, ◌≤◌, true, List, [], ◌∷◌, ◌++◌, ◌==◌, eqb, false, length, get_or, take, drop, Some, None, Option, sym, refl, ap, ◌∙◌, arith}
 use Rattle.std.specs.List.{position, position_or_len}
 use Rattle.std.proofs.lemmas.List.{drop_more, take-append-drop, get_or-drop, length-take-le, length-drop}

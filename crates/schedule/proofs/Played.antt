@@ -1,8 +1,8 @@
--- The parts of a run and of its listing, one more at a time. Assumes nothing.
+-- The parts of a run and of its listing, one more at a time.
 use Rattle.std.proofs.Common.{◌≡◌, ℕ, suc, ◌+◌, ◌<◌, List, [], ◌∷◌, ◌++◌, length, get_or, drop, Some, None, Ok, Err, Option, sym, ap, ◌∙◌, append_assoc, add-one, arith}
 use Rattle.std.proofs.lemmas.List.{at_drop_more}
 use Rattle.rules.specs.Rule.{Behaviour}
-use Rattle.rules.proofs.Tables.{tabulate_more}
+use Rattle.lists.proofs.Tables.{tabulate_more}
 use Rattle.protocol.specs.declared.refusal.Refusal.{Refusal}
 use Rattle.protocol.specs.declared.types.Sight.{Sight}
 use Rattle.protocol.specs.World.{World}

@@ -1,4 +1,4 @@
--- Reading a written schedule gives it back. Assumes nothing.
+-- Reading a written schedule gives it back.
 use Rattle.std.proofs.lemmas.Bool.Decides.{nat_tests}
 use Rattle.std.proofs.Common.{◌≡◌, ℕ, suc, ◌+◌, ◌%◌, ◌<◌, ◌≤◌, Bool, true, false, not, ◌&&◌, eqb, List, [], ◌∷◌, ◌++◌, map, length, Some, Ok, codes, decimal, sym, refl, ap, ◌∙◌, append_assoc, append-nil, arith}
 use lib.ListN.{length-map}

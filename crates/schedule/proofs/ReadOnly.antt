@@ -1,4 +1,4 @@
--- A schedule is read from no text but the one that writes it. Assumes nothing.
+-- A schedule is read from no text but the one that writes it.
 use Rattle.std.proofs.lemmas.List.Splits.{join_with_byte-slice_split}
 use Rattle.std.proofs.lemmas.Grind.{common_steps}
 use Rattle.std.proofs.lemmas.Bool.Decides.{nat_tests}
@@ -16,7 +16,7 @@ use Rattle.schedule.specs.declared.types.RuleName.TheVariants.{Third}
 use Rattle.schedule.specs.Reading.{pieces, all_but_last, last_of, finished, unfinished, number_in, with_first, numbers_in, values_in, values_line, rule_line, step_of, step_with, step_line, Plan, right, wrong, first_wrong, and_step, steps_in, plan_in, unless, read_lines, read_text}
 use Rattle.schedule.specs.Writing.{write_rule, write_value, letter_of, number_of, write_step, ended, write_schedule, Fits}
 use Rattle.schedule.specs.Judging.{ValuesOn}
-use Rattle.rules.proofs.Options.{none_some}
+use Rattle.lists.proofs.Options.{none_some}
 use Rattle.schedule.proofs.Cutting.{split_is}
 use Rattle.schedule.proofs.Numbers.{number_only}
 use Rattle.schedule.proofs.Steps.{some_piece, right_later}

@@ -1,11 +1,11 @@
--- Every call keeps the number of stations and the lengths of the buffers, so whoever looks after a run is not refused. Assumes nothing.
+-- Every call keeps the number of stations and the lengths of the buffers, so whoever looks after a run is not refused.
 use Rattle.std.proofs.lemmas.Bool.Decides.{nat_tests}
 use Rattle.std.proofs.Common.{◌≡◌, ℕ, ◌+◌, ◌*◌, ◌<◌, ◌≤◌, List, [], ◌∷◌, length, get_or, drop, set, Some, None, Err, Option, Result, sym, refl, ◌∙◌, arith}
 use Rattle.std.specs.List.{slice_get}
 use Rattle.std.proofs.lemmas.List.{length-set, length-append, length-replicate}
 use Rattle.rules.specs.Rule.{Behaviour}
-use Rattle.rules.specs.Lists.{tabulate}
-use Rattle.rules.proofs.Tables.{length_put, length_tabulate}
+use Rattle.lists.specs.Lists.{tabulate}
+use Rattle.lists.proofs.Tables.{length_put, length_tabulate}
 use Rattle.frames.specs.Frame.{Frame}
 use Rattle.frames.specs.Pool.{take_out}
 use Rattle.protocol.specs.declared.refusal.Refusal.{Refusal}

@@ -1,4 +1,4 @@
--- The number and the line of each fault of a schedule's text. Assumes nothing.
+-- The number and the line of each fault of a schedule's text.
 use Rattle.std.specs.Prelude.{ℕ}
 use Rattle.schedule.specs.declared.types.Fault.{Fault}
 use Rattle.schedule.specs.declared.types.Fault.TheVariants.{TooLong, WrongRule, WrongValues, WrongStep, Unfinished}

@@ -1,4 +1,4 @@
--- When a text has a fault, told by its lines: what the schedule's lines should be, and where they first are not. Assumes nothing.
+-- When a text has a fault, told by its lines: what the schedule's lines should be, and where they first are not.
 use Rattle.std.specs.Prelude.{◌≡◌, ℕ, zero, suc, ◌<◌, ◌≤◌, ◌⊎◌, List, [], ◌∷◌, ◌++◌, length, Err, ◌≢◌}
 use Rattle.std.specs.List.{flat_map, AllByRecursion}
 use Rattle.protocol.specs.declared.types.Step.{Step}

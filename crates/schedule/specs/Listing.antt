@@ -1,4 +1,4 @@
--- The listing of a finished run, byte by byte. Assumes nothing.
+-- The listing of a finished run, byte by byte.
 use Rattle.std.specs.Prelude.{◌≡◌, ℕ, ◌-◌, ◌≤◌, List, ◌++◌, length, take, replicate, Some, None, codes, decimal, Option}
 use Rattle.protocol.specs.declared.types.Sight.{Sight}
 use Rattle.protocol.specs.declared.types.Stand.{Stand}

@@ -1,4 +1,4 @@
--- The whole listing of a finished run. Every line ends in byte 10. Assumes nothing.
+-- The whole listing of a finished run. Every line ends in byte 10.
 use Rattle.std.specs.Prelude.{ℕ, suc, List, [], ◌∷◌, ◌++◌, length}
 use Rattle.protocol.specs.declared.types.Sight.{Sight}
 use Rattle.schedule.specs.declared.line.Line.{Line}

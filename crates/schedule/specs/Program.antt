@@ -1,7 +1,7 @@
--- What the program prints of a text. Assumes nothing.
+-- What the program prints of a text.
 use Rattle.std.specs.Prelude.{◌≡◌, ℕ, suc, ◌<◌, false, List, [], ◌∷◌, length, take, replicate, Some, None, Ok, Err, Option, Result, slice_index}
 use Rattle.std.specs.List.{slice_get}
-use Rattle.rules.specs.Lists.{tabulate}
+use Rattle.lists.specs.Lists.{tabulate}
 use Rattle.rules.specs.Rule.{Behaviour}
 use Rattle.third.specs.declared.State.{State as ThirdState}
 use Rattle.third.specs.declared.Letter.{Letter as ThirdLetter}

@@ -1,4 +1,4 @@
--- What the text of a schedule means: the schedule that it writes, or its one fault. A text is a list of bytes. Assumes nothing.
+-- What the text of a schedule means: the schedule that it writes, or its one fault. A text is a list of bytes.
 use Rattle.std.specs.Prelude.{◌≡◌, ℕ, suc, ◌+◌, ◌-◌, ◌*◌, ◌≤◌, Bool, cond, ◌&&◌, ◌||◌, List, [], ◌∷◌, length, drop, is_some, Some, None, Ok, Err, vec_items, codes, Option, Result, Vec, ◌==◌, nat_lt, slice_index, slice_index_or}
 use Rattle.std.specs.Option.{unwrap_or}
 use Rattle.std.specs.Char.{is_ascii_digit}

@@ -1,4 +1,4 @@
--- How well a station was reached: the letters that it heard among those due in its turns, counted from the book's entries. Assumes nothing.
+-- How well a station was reached: the letters that it heard among those due in its turns, counted from the book's entries.
 use Rattle.std.specs.Prelude.{ℕ, ◌+◌, ◌*◌, ◌/◌, Bool, cond, List, [], ◌∷◌, count_by, ◌==◌}
 use Rattle.frames.specs.Book.{read_entry}
 

@@ -1,4 +1,4 @@
--- What a run comes to, part by part: what is seen after it, and its listing. Assumes nothing.
+-- What a run comes to, part by part: what is seen after it, and its listing.
 use Rattle.std.specs.Prelude.{◌≡◌, ℕ, ◌<◌, List, Some, Ok, Err, vec_items, Result, Vec}
 use Rattle.std.specs.declared.alloc.Global.{Global}
 use Rattle.rules.specs.Rule.{Behaviour}

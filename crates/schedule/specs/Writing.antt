@@ -1,4 +1,4 @@
--- How a schedule is written, and that reading and writing are inverse. Assumes nothing.
+-- How a schedule is written, and that reading and writing are inverse.
 use Rattle.std.specs.Prelude.{◌≡◌, ℕ, ◌<◌, ◌≤◌, List, [], ◌∷◌, ◌++◌, length, Some, Ok, Err, codes, decimal, refl}
 use Rattle.std.specs.List.{flat_map, AllByRecursion}
 use Rattle.protocol.specs.declared.types.Step.{Step}

@@ -1,4 +1,4 @@
--- A station's frames, one receiver after another. Assumes nothing.
+-- A station's frames, one receiver after another.
 use Rattle.std.proofs.Common.{◌≡◌, ℕ, suc, ◌+◌, ◌-◌, ◌<◌, List, [], ◌∷◌, ◌++◌, Some, None, Option, sym, ap, ◌∙◌, add-one, arith}
 use Rattle.std.proofs.lemmas.List.{append_assoc}
 use Rattle.rules.specs.Rule.{Behaviour}

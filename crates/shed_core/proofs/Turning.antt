@@ -1,8 +1,8 @@
--- What the checks of a turn say. Assumes nothing.
+-- What the checks of a turn say.
 use Rattle.std.proofs.Common.{◌≡◌, ℕ, ◌<◌, Bool, true, false, cond, eqb, leb, List, [], ◌∷◌, ◌++◌, Some, None, Option}
 use Rattle.std.proofs.lemmas.Bool.{leb-false, eqb-false}
-use Rattle.rules.proofs.Options.{passed, none_some}
-use Rattle.protocol.specs.declared.types.Record.{Record}
+use Rattle.lists.proofs.Options.{passed, none_some}
+use Rattle.protocol.specs.declared.types.StationRecord.{StationRecord}
 use Rattle.protocol.specs.declared.refusal.Refusal.{Refusal}
 use Rattle.protocol.specs.Refusals.{first_refusal}
 use Rattle.protocol.specs.Calls.{is_down, is_fresh}
@@ -18,12 +18,12 @@ first_fails [] us f e = none_some e
 first_fails (t ∷ ts) us f e = or_later t.0 t.1 f (first_refusal ts) (first_refusal (ts ++ us)) (first_fails ts us f) e
 
 -- what a station that may turn has
-pub record Turns (n p entries book_len : ℕ) (s : Record) : Type 0 where
+pub record Turns (n p entries book_len : ℕ) (s : StationRecord) : Type 0 where
   pub there : p < n
   pub room : entries ≡ book_len → ⊥
   pub more : s.round ≡ 4095 → ⊥
 
-pub turns : (n p entries book_len : ℕ) (s : Record) → first_refusal (turner_tests n p s entries book_len) ≡ None → Turns n p entries book_len s
+pub turns : (n p entries book_len : ℕ) (s : StationRecord) → first_refusal (turner_tests n p s entries book_len) ≡ None → Turns n p entries book_len s
 turns n p entries book_len s e =
     let c = passed (leb n p) _ _ e in
     let d = passed (is_down s.stand) _ _ c.1 in

@@ -1,13 +1,13 @@
--- Two worlds are the same part by part; what a call comes to that nothing refuses, and one that is refused. Assumes nothing.
+-- Two worlds are the same part by part; what a call comes to that nothing refuses, and one that is refused.
 use Rattle.std.proofs.Common.{◌≡◌, ℕ, List, IsErrAnd, Some, None, Ok, Err, Option, Result, sym, ap, ◌∙◌}
-use Rattle.protocol.specs.declared.types.Record.{Record}
+use Rattle.protocol.specs.declared.types.StationRecord.{StationRecord}
 use Rattle.protocol.specs.declared.refusal.Refusal.{Refusal}
 use Rattle.protocol.specs.World.{World}
 use Rattle.protocol.specs.Calls.{attempt}
 use Rattle.shed_core.specs.Of.{ComesTo}
 
 pub same_world :
-    {S L : Type 0} {n n' a a' b b' c c' d d' : ℕ} {t t' : List Record} {s s' : List S} {l l' : List L} {p p' q q' : List ℕ} →
+    {S L : Type 0} {n n' a a' b b' c c' d d' : ℕ} {t t' : List StationRecord} {s s' : List S} {l l' : List L} {p p' q q' : List ℕ} →
     n ≡ n' → a ≡ a' → b ≡ b' → c ≡ c' → d ≡ d' → t ≡ t' → s ≡ s' → l ≡ l' → p ≡ p' → q ≡ q' →
     ◌≡◌ {A = World S L}
     (record { n = n; pool_len = a; book_len = b; frames = c; entries = d; stations = t; states = s; letters = l; pool = p; book = q })

@@ -1,6 +1,6 @@
--- What the calls ask for before they act, each list of tests in checking order. Assumes nothing.
+-- What the calls ask for before they act, each list of tests in checking order.
 use Rattle.std.specs.Prelude.{◌≡◌, ℕ, Bool, ◌+◌, ◌*◌, not, ◌||◌, List, [], ◌∷◌, ◌++◌, Some, None, Ok, Err, Result, ◌==◌, nat_le, nat_lt, slice_index_or}
-use Rattle.protocol.specs.declared.types.Record.{Record}
+use Rattle.protocol.specs.declared.types.StationRecord.{StationRecord}
 use Rattle.protocol.specs.declared.types.Stand.{Stand}
 use Rattle.protocol.specs.declared.types.Stand.TheVariants.{Fresh, Listening, Down}
 use Rattle.protocol.specs.declared.refusal.Refusal.{Refusal}
@@ -21,7 +21,7 @@ fit_tests s states letters pool book =
     (s.count == 0, Shut) ∷
     (nat_lt states s.count || nat_lt letters (s.count * (s.count + 1)) || not (pool == s.pool_len) || not (book == s.book_len), BufferMismatch) ∷ []
 
-abbrev pub record_of : Shed → ℕ → Record
+abbrev pub record_of : Shed → ℕ → StationRecord
 record_of s p = slice_index_or s.table.records p blank
 
 -- station p, one of n
@@ -35,14 +35,14 @@ is_in Listening = is_listening
 is_in Down = is_down
 
 -- station p with record s, which is not down
-abbrev pub standing_tests : (n p : ℕ) → Record → List (Bool × Refusal)
+abbrev pub standing_tests : (n p : ℕ) → StationRecord → List (Bool × Refusal)
 standing_tests n p s = station_tests n p ++ (is_down s.stand, StationDown) ∷ []
 
 -- station p, which may send
-abbrev pub speaker_tests : (n p : ℕ) → Record → List (Bool × Refusal)
+abbrev pub speaker_tests : (n p : ℕ) → StationRecord → List (Bool × Refusal)
 speaker_tests n p s = standing_tests n p s ++ (is_listening s.stand, AlreadySent) ∷ []
 
 -- station p, which may turn, where the book has entries
-abbrev pub turner_tests : (n p : ℕ) → Record → (entries book_len : ℕ) → List (Bool × Refusal)
+abbrev pub turner_tests : (n p : ℕ) → StationRecord → (entries book_len : ℕ) → List (Bool × Refusal)
 turner_tests n p s entries book_len =
     standing_tests n p s ++ (is_fresh s.stand, NotListening) ∷ ((entries == book_len), BookFull) ∷ ((s.round == 4095), LastRound) ∷ []

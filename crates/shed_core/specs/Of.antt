@@ -1,4 +1,4 @@
--- A shed with its buffers, as a value, and what a call's answer and buffers come to. Assumes nothing.
+-- A shed with its buffers, as a value, and what a call's answer and buffers come to.
 use Rattle.std.specs.Prelude.{◌≡◌, ℕ, List, replicate}
 use Rattle.protocol.specs.World.{World, blank, shut}
 use Rattle.shed_core.specs.declared.shed.Shed.{Shed}
@@ -47,7 +47,7 @@ pub record SameCounts (before after : Shed) : Type 0 where
   pub same_entries : after.entries ≡ before.entries
 
 -- a new shed: shut, and with nothing in it
-pub record New (s : Shed) : Type 0 where
+pub record IsNew (s : Shed) : Type 0 where
   pub shut : s.count ≡ 0
   pub no_pool : s.pool_len ≡ 0
   pub no_book : s.book_len ≡ 0

@@ -3,19 +3,19 @@ ghost use Rattle.std.specs.Prelude.{◌≡◌, ◌<◌, replicate, slice_index_o
 ghost use Rattle.protocol.specs.World.{blank, hearing, holding};
 
 use crate::cells::store;
-use protocol::types::{Held, Record, Stand};
+use protocol::types::{Held, StationRecord, Stand};
 
 // One record for each of sixteen stations, so that a table asks for no memory; a shed with fewer uses the first.
 #[derive(Clone, Copy, Debug, PartialEq, Eq)]
 pub struct Table {
-    records: [Record; 16],
+    records: [StationRecord; 16],
 }
 
 // A station in round 0 that has sent, heard and held nothing.
-pub fn blank_record() -> Record
+pub fn blank_record() -> StationRecord
     ensures { result ≡ blank }
 {
-    Record {
+    StationRecord {
         round: 0,
         stand: Stand::Fresh,
         heard: [false; 16],
@@ -33,14 +33,14 @@ impl Table {
     }
 
     // The record of station p; past the last station, one that did nothing yet.
-    pub fn record(&self, p: usize) -> Record
+    pub fn record(&self, p: usize) -> StationRecord
         ensures { result ≡ slice_index_or self.now.records p blank }
     {
         self.records.get(p).copied().unwrap_or_else(blank_record)
     }
 
     // The record of station p, lent, so that no frame's delivery copies one.
-    pub(crate) fn lend(&self, p: usize) -> &Record
+    pub(crate) fn lend(&self, p: usize) -> &StationRecord
         requires { p < 16 }
         ensures { result.now ≡ slice_index_or self.now.records p blank }
     {
@@ -48,7 +48,7 @@ impl Table {
     }
 
     // Gives station p another record.
-    pub fn change(&mut self, p: usize, new: Record)
+    pub fn change(&mut self, p: usize, new: StationRecord)
         ensures { self.new.records ≡ slice_set self.old.records p new }
     {
         store(&mut self.records, p, new);

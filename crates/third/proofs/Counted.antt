@@ -1,11 +1,11 @@
--- Counting each value from its first sender on is enough to choose the most frequent one, and its count shows a quorum. Assumes nothing.
+-- Counting each value from its first sender on is enough to choose the most frequent one, and its count shows a quorum.
 use Rattle.std.proofs.Common.{◌≡◌, ◌≢◌, ℕ, ◌+◌, ◌-◌, ◌*◌, ◌≤◌, ◌<◌, true, false, cond, Option, Some, None, length, get_or, take, drop, fold, nat_lt, Option, Some, None, refl, ap, ◌∙◌, inl, inr, arith}
 use Rattle.std.proofs.lemmas.List.Sums.{fold_more, sum_by-take-drop}
 use Rattle.std.specs.Bool.{then_some}
 use Rattle.std.proofs.lemmas.List.{take_all, length-drop}
 use Rattle.std.proofs.lemmas.Bool.{cases_eq, cases_Bool, ltb-true, ltb-false}
 use Rattle.std.proofs.lemmas.Bool.Decides.{nat_tests}
-use Rattle.rules.proofs.Counting.{found_by}
+use Rattle.lists.proofs.Counting.{found_by}
 use Rattle.third.specs.declared.Letter.{Letter}
 use Rattle.third.specs.Third.{Mailbox, says, occurs, before, better, most_frequent, quorum_value}
 use Rattle.third.specs.Mailbox.{AsGood, folded_good, winner_most, quorum_is, quorum_occurs}

@@ -1,4 +1,4 @@
--- A round of OneThirdRule does what its law says. Assumes nothing.
+-- A round of OneThirdRule does what its law says.
 use Rattle.std.proofs.Common.{◌≡◌, ℕ, ◌*◌, false, not, ◌||◌, eqb, length, arith}
 use Rattle.std.proofs.lemmas.Bool.{lt-ltb, le-ltb, eq-eqb, cond-true, cond-false, or_from, not_from_true}
 use Rattle.std.specs.Option.{option_or}

@@ -1,17 +1,17 @@
--- In a lockstep run a value of more than two thirds of the stations stays, and a hull is such a value. Assumes nothing.
+-- In a lockstep run a value of more than two thirds of the stations stays, and a hull is such a value.
 use Rattle.std.specs.Prelude.{◌≡◌, ℕ, zero, suc, ◌+◌, ◌*◌, ◌<◌, ◌≤◌, Bool, true, cond, not, ◌||◌, ◌⊎◌, List, length, is_some, Some, None, Option, ◌==◌, nat_eq, nat_le, nat_lt, slice_index, refl}
 use Rattle.std.proofs.Common.{◌∙◌}
 use Rattle.std.proofs.Math.Logic.{inl, inr}
 use native.Mathlib.Omega.{arith}
 use Rattle.std.proofs.lemmas.Bool.{ltb-true, eqb-true, eq-eqb, cases_lt, cond_both}
-use Rattle.rules.specs.Lists.{tabulate}
+use Rattle.lists.specs.Lists.{tabulate}
 use Rattle.std.specs.Option.{option_or}
 use Rattle.rules.specs.Rule.{Heard, lockstep, outside, Agreement, Validity}
 use Rattle.third.specs.declared.Letter.{Letter}
 use Rattle.third.specs.declared.State.{State}
 use Rattle.third.specs.Third.{third, says, heard, occurs, most_frequent, quorum_value, next_value}
-use Rattle.rules.proofs.Options.{none_some}
-use Rattle.rules.proofs.Counting.{count, overlap, no_fewer, witness, meet, count_by_tabulate}
+use Rattle.lists.proofs.Options.{none_some}
+use Rattle.lists.proofs.Counting.{count, overlap, no_fewer, witness, meet, count_by_tabulate}
 use Rattle.third.specs.Mailbox.{winner_most, winner_heard, quorum_occurs}
 
 -- what holds of the state and of a changed one holds of the next

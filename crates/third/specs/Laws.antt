@@ -1,4 +1,4 @@
--- OneThirdRule's interface and laws. Assumes nothing.
+-- OneThirdRule's interface and laws.
 use Rattle.std.specs.Prelude.{◌≡◌, ℕ, ◌*◌, ◌^◌, ◌<◌, Bool, true, cond, ◌||◌, T, Some, None, Option, nat_le, nat_lt, slice_index_or, refl}
 use Rattle.std.proofs.Common.{ap, subst, arith, ltb→lt, lt→ltb}
 use Rattle.std.proofs.lemmas.Bool.{false≢true, ltb-true, eqb-true, ne_eqb, cond_both, cond-true, or_left, or_right, not_from_false}
@@ -7,9 +7,9 @@ use Rattle.rules.specs.Rule.{Interface, Laws, Codec, Stable, outside}
 use Rattle.third.specs.declared.Letter.{Letter}
 use Rattle.third.specs.declared.State.{State}
 use Rattle.third.specs.Third.{third, says, heard, most_frequent}
-use Rattle.rules.proofs.Counting.{found_by}
+use Rattle.lists.proofs.Counting.{found_by}
 use Rattle.third.specs.Mailbox.{winner_heard}
-use Rattle.rules.proofs.Options.{holds, unless, same_some}
+use Rattle.lists.proofs.Options.{holds, unless, same_some}
 use Rattle.third.specs.Agreement.{by_next, third_agreement, third_validity}
 
 -- what a letter carries

@@ -1,13 +1,12 @@
 -- What the counts of a mailbox give: the winner is the value that occurs most often, the smallest of these in a tie, and a quorum's value is the one that occurs often enough.
--- Assumes nothing.
 use Rattle.std.specs.Prelude.{◌≡◌, ℕ, zero, suc, ◌*◌, ◌<◌, ◌≤◌, true, cond, [], ◌∷◌, length, is_some, Some, None, fold, Option, nat_lt, slice_index_or, refl}
 use Rattle.std.proofs.Common.{sym, ap, ◌∙◌, inl, inr, arith}
 use Rattle.std.proofs.lemmas.List.Sums.{get_or-le-sum_by}
 use Rattle.std.proofs.lemmas.Bool.{false≢true, ltb-true, eqb-true, eq-eqb, cond_both, cond-true, lt-ltb, cases_eq, cases_Bool}
 use Rattle.std.proofs.lemmas.Bool.Decides.{nat_tests}
 use Rattle.third.specs.declared.Letter.{Letter}
-use Rattle.rules.proofs.Options.{none_some, same_some}
-use Rattle.rules.proofs.Counting.{meet, count_by_count, found_by}
+use Rattle.lists.proofs.Options.{none_some, same_some}
+use Rattle.lists.proofs.Counting.{meet, count_by_count, found_by}
 use Rattle.third.specs.Third.{Mailbox, MostFrequent, says, heard, occurs, better, most_frequent, quorum_from, quorum_value}
 
 -- y occurs at least as often as x, and where as often is at most x

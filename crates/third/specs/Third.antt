@@ -1,4 +1,4 @@
--- OneThirdRule. Assumes nothing.
+-- OneThirdRule.
 use Rattle.std.specs.Prelude.{◌≡◌, ℕ, ◌*◌, ◌/◌, ◌%◌, ◌^◌, ◌<◌, ◌≤◌, Bool, false, cond, not, ◌&&◌, ◌||◌, List, [], ◌∷◌, length, is_some, Some, None, fold, count_by, Option, ◌==◌, nat_le, nat_lt}
 use Rattle.std.specs.Option.{option_or}
 use Rattle.rules.specs.Rule.{Behaviour, outside}

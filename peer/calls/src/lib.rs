@@ -1,4 +1,4 @@
-//! The functions of `crates/bridge`, declared as its source has them: nothing checks one against the other. A slice crosses
+//! The functions of `crates/peer_bridge`, declared as its source has them: nothing checks one against the other. A slice crosses
 //! as a pointer and then a length. None of these functions asks anything of its arguments.
 
 use peer::calls::{EntryCell, FrameCell, Functions, LetterCell, StateCell, WordCell};

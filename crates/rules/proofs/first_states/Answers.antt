@@ -1,5 +1,5 @@
 use Rattle.std.proofs.Common.{ℕ, length, get_or, refl, arith}
-use Rattle.rules.proofs.Tables.{put_table_more}
+use Rattle.lists.proofs.Tables.{put_table_more}
 use Rattle.std.proofs.lemmas.List.{set_past}
 use Rattle.rules.proofs.first_states.Goals as goal
 

@@ -1,5 +1,5 @@
 use Rattle.std.proofs.Common.{◌≡◌, length, get_or}
-use Rattle.rules.specs.Lists.{tabulate, put}
+use Rattle.lists.specs.Lists.{tabulate, put}
 use Rattle.rules.proofs.first_states.Given as goal
 
 -- the states of the stations so far

@@ -5,11 +5,11 @@ ghost use Rattle.shed_core.specs.Checks.{Checked, is_in, fit_tests, record_of, s
 use crate::buffers::Buffers;
 use crate::shed::Shed;
 use protocol::refusal::Refusal;
-use protocol::types::{Record, Stand};
+use protocol::types::{StationRecord, Stand};
 use rules::LAST_ROUND;
 
 // The station's record, unless the station is in the stand.
-fn not_in(stand: Stand, station: Record, refusal: Refusal) -> Result<Record, Refusal>
+fn not_in(stand: Stand, station: StationRecord, refusal: Refusal) -> Result<StationRecord, Refusal>
     ensures { Checked ((is_in stand station.stand, refusal) ∷ []) station result }
 {
     if station.stand == stand {
@@ -56,7 +56,7 @@ impl Shed {
     }
 
     // The record of station p.
-    pub(super) fn station(&self, p: usize) -> Result<Record, Refusal>
+    pub(super) fn station(&self, p: usize) -> Result<StationRecord, Refusal>
         ensures { Checked (station_tests self.now.count p) (record_of self.now p) result }
     {
         if p >= self.count {
@@ -66,21 +66,21 @@ impl Shed {
     }
 
     // The record of station p, which is not down.
-    pub(super) fn standing(&self, p: usize) -> Result<Record, Refusal>
+    pub(super) fn standing(&self, p: usize) -> Result<StationRecord, Refusal>
         ensures { Checked (standing_tests self.now.count p (record_of self.now p)) (record_of self.now p) result }
     {
         not_in(Stand::Down, self.station(p)?, Refusal::StationDown)
     }
 
     // The record of station p, which may send.
-    pub(super) fn speaker(&self, p: usize) -> Result<Record, Refusal>
+    pub(super) fn speaker(&self, p: usize) -> Result<StationRecord, Refusal>
         ensures { Checked (speaker_tests self.now.count p (record_of self.now p)) (record_of self.now p) result }
     {
         not_in(Stand::Listening, self.standing(p)?, Refusal::AlreadySent)
     }
 
     // The record of station p, which may turn.
-    pub(super) fn turner(&self, p: usize) -> Result<Record, Refusal>
+    pub(super) fn turner(&self, p: usize) -> Result<StationRecord, Refusal>
         ensures { Checked (turner_tests self.now.count p (record_of self.now p) self.now.entries self.now.book_len) (record_of self.now p) result }
     {
         let station = not_in(Stand::Fresh, self.standing(p)?, Refusal::NotListening)?;

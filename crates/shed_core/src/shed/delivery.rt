@@ -8,19 +8,19 @@ use crate::cells::store;
 use crate::shed::Shed;
 use frames::pool::{frame_at, take_out};
 use protocol::refusal::Refusal;
-use protocol::types::{Fate, Held, Record, Stand};
+use protocol::types::{Fate, Held, StationRecord, Stand};
 use rules::Rule;
 use std::cmp::Ordering;
 
 // Whether the station heard q.
-fn has_heard(station: &Record, q: usize) -> bool
+fn has_heard(station: &StationRecord, q: usize) -> bool
     ensures { result ≡ slice_index_or station.now.heard q false }
 {
     station.heard.get(q).copied().unwrap_or(false)
 }
 
 // The fate of a frame of round k from q, or why the station does not take it.
-fn judge(station: &Record, q: usize, k: u16) -> Result<Fate, Refusal>
+fn judge(station: &StationRecord, q: usize, k: u16) -> Result<Fate, Refusal>
     ensures { result ≡ judged station.now q k }
 {
     match (station.stand, k.cmp(&station.round)) {

@@ -1,6 +1,6 @@
 // A new shed, and its opening.
 ghost use Rattle.std.specs.Prelude.{◌≡◌, Some, None, MatchResult};
-ghost use Rattle.shed_core.specs.Of.{world_of, ComesTo, StillLent, New};
+ghost use Rattle.shed_core.specs.Of.{world_of, ComesTo, StillLent, IsNew};
 ghost use Rattle.protocol.specs.Calls.{open_refusal, open_call};
 
 use crate::buffers::Buffers;
@@ -18,7 +18,7 @@ const MAX_BOOK: usize = 65536;
 impl Shed {
     // A shed that is shut.
     pub fn new() -> Shed
-        ensures { New result }
+        ensures { IsNew result }
     {
         Shed {
             count: 0,

@@ -1,6 +1,6 @@
 // A station goes to its next round.
 ghost use Rattle.std.specs.Prelude.{◌≡◌, ◌<◌, None, if◌then◌else◌, length, nat_lt, take};
-ghost use Rattle.rules.specs.Lists.{tabulate};
+ghost use Rattle.lists.specs.Lists.{tabulate};
 ghost use Rattle.shed_core.specs.Of.{world_of, ComesTo, StillLent};
 ghost use Rattle.protocol.specs.Calls.{mail, turn_call};
 

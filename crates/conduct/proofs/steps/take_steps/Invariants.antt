@@ -1,5 +1,5 @@
 use Rattle.std.proofs.Common.{◌≡◌, drop}
-use Rattle.rules.specs.Lists.{put}
+use Rattle.lists.specs.Lists.{put}
 use Rattle.shed_core.specs.Of.{world_of, StillLent}
 use Rattle.protocol.specs.Calls.{after, refusals}
 use Rattle.conduct.proofs.steps.take_steps.Given as goal

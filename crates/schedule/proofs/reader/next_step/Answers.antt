@@ -2,7 +2,7 @@ use Rattle.std.proofs.Common.{◌≡◌, ◌+◌, ◌==◌, Some, drop, take, sy
 use Rattle.std.specs.List.{position}
 use Rattle.std.proofs.lemmas.Grind.{common_steps}
 use Rattle.std.proofs.lemmas.List.{take_rest}
-use Rattle.rules.proofs.Options.{none_some, same_some}
+use Rattle.lists.proofs.Options.{none_some, same_some}
 use Rattle.schedule.specs.Reading.{step_line}
 use Rattle.schedule.proofs.NextStep.{begins, no_step}
 use Rattle.schedule.proofs.reader.next_step.Goals as goal

@@ -1,7 +1,7 @@
 use Rattle.std.proofs.Common.{length, take, vec_items, ap, ◌∙◌, arith}
 use Rattle.std.proofs.lemmas.List.{length-take}
 use Rattle.std.proofs.lemmas.Result.{err_from_is_err_and}
-use Rattle.rules.proofs.Tables.{length_tabulate}
+use Rattle.lists.proofs.Tables.{length_tabulate}
 use Rattle.protocol.specs.World.{shut}
 use Rattle.shed_core.specs.Of.{world_of}
 use Rattle.schedule.specs.Program.{refused_from, sight}

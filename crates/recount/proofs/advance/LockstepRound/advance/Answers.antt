@@ -1,5 +1,5 @@
 use Rattle.std.proofs.Common.{take}
-use Rattle.rules.proofs.Tables.{written_more}
+use Rattle.lists.proofs.Tables.{written_more}
 use Rattle.recount.specs.Recount.{state_after}
 use Rattle.recount.proofs.advance.LockstepRound.advance.Goals as goal
 

@@ -1,5 +1,5 @@
 use Rattle.std.proofs.Common.{◌≡◌}
-use Rattle.rules.specs.Lists.{written}
+use Rattle.lists.specs.Lists.{written}
 use Rattle.recount.specs.Recount.{state_after}
 use Rattle.recount.proofs.advance.LockstepRound.advance.Given as goal
 

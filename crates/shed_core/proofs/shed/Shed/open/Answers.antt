@@ -1,6 +1,6 @@
 use Rattle.std.proofs.Common.{◌≡◌, ℕ, length, get_or, None, refl, ap, ◌∙◌}
 use Rattle.std.proofs.lemmas.List.{length-replicate}
-use Rattle.rules.proofs.Tables.{put_table}
+use Rattle.lists.proofs.Tables.{put_table}
 use Rattle.protocol.specs.Calls.{open_refusal, opened}
 use Rattle.protocol.proofs.Start.{opens}
 use Rattle.shed_core.proofs.Worlds.{same_world, accepted}

@@ -1,0 +1,46 @@
+-- Worked examples of the two rules.
+use Rattle.std.specs.Prelude.{◌≡◌, ℕ, ◌+◌, ◌*◌, ◌^◌, true, false, List, [], ◌∷◌, length, Some, None, Option}
+use Rattle.third.specs.declared.State.{State as ThirdState}
+use Rattle.third.specs.declared.Letter.{Letter as ThirdLetter}
+use Rattle.third.specs.Third.{third, heard as third_heard}
+use Rattle.last.specs.declared.State.{State as LastState}
+use Rattle.last.specs.declared.Letter.{Letter as LastLetter}
+use Rattle.last.specs.Last.{last, heard as last_heard}
+
+-- ---- OneThirdRule: station 0 in round 0, with value 9 and no hull
+abbrev pub voting : ℕ → Option ℕ → ThirdState
+voting v h = record { value = v; hull = h }
+
+abbrev pub value : ℕ → Option ThirdLetter
+value v = Some (record { value = v })
+
+abbrev pub third_hears : ℕ → List (Option ThirdLetter) → ThirdState
+third_hears n m = third.next n 0 0 (voting 9 None) m
+
+pub record ThirdExamples : Type 0 where
+  pub tie_of_two : third_hears 2 (value 9 ∷ value 7 ∷ []) ≡ voting 7 None
+  pub two_of_three_agree : third_hears 3 (value 7 ∷ value 7 ∷ value 9 ∷ []) ≡ voting 7 None
+  pub three_agree : third_hears 3 (value 7 ∷ value 7 ∷ value 7 ∷ []) ≡ voting 7 (Some 7)
+  pub two_of_three_heard : third_hears 3 (value 7 ∷ value 7 ∷ None ∷ []) ≡ voting 9 None
+  -- whatever two letters they are, and whatever the state
+  pub any_two_of_three : (s : ThirdState) (m : List (Option ThirdLetter)) → length m ≡ 3 → third_heard m ≡ 2 → third.next 3 0 0 s m ≡ s
+
+-- ---- LastVoting: station 0, the coordinator of round 0, with value 5
+abbrev pub opened : LastState
+opened = last.first 4 0 5
+
+abbrev pub stamped : ℕ → ℕ → Option LastLetter
+stamped v x = Some (record { value = v; stamp = x })
+
+abbrev pub last_hears : List (Option LastLetter) → LastState
+last_hears m = last.next 4 0 0 opened m
+
+pub record LastExamples : Type 0 where
+  pub two_of_four : (last_hears (stamped 5 0 ∷ stamped 6 0 ∷ None ∷ None ∷ [])).committed ≡ false
+  pub three_of_four : (last_hears (stamped 5 0 ∷ stamped 6 0 ∷ None ∷ stamped 7 0 ∷ [])).committed ≡ true
+  -- whatever two or three letters they are, and whatever the state
+  pub any_two_of_four : (s : LastState) (m : List (Option LastLetter)) → length m ≡ 4 → last_heard m ≡ 2 → last.next 4 0 0 s m ≡ s
+  pub any_three_of_four : (s : LastState) (m : List (Option LastLetter)) → length m ≡ 4 → last_heard m ≡ 3 → (last.next 4 0 0 s m).committed ≡ true
+  pub latest_from_lowest : (last_hears (stamped 300 1 ∷ stamped 200 2 ∷ stamped 100 2 ∷ None ∷ [])).vote ≡ 200
+  pub last_stamp : last.unpack (300 * 2 ^ 28 + 1024 * 2 ^ 17) ≡ stamped 300 1024
+  pub stamp_too_large : last.unpack (300 * 2 ^ 28 + 1025 * 2 ^ 17) ≡ None
