@@ -1,5 +1,5 @@
 -- A new shed that is opened, and then carries out its steps.
-use Rattle.std.proofs.Common.{◌≡◌, ℕ, suc, ◌^◌, ◌<◌, List, [], ◌∷◌, length, get_or, set, Some, None, Ok, Option, Result, sym, refl, ap, ◌∙◌, subst, arith}
+use Rattle.std.proofs.Common.{◌≡◌, ℕ, suc, ◌^◌, ◌<◌, List, [], ◌∷◌, length, get_or, set, Ok, Option, Result, sym, refl, ap, ◌∙◌, subst, arith}
 use Rattle.rules.specs.Rule.{Behaviour, Interface, Laws}
 use Rattle.lists.specs.Lists.{put}
 use Rattle.shed_core.specs.declared.shed.Shed.{Shed}
@@ -8,7 +8,8 @@ use Rattle.protocol.specs.declared.refusal.Refusal.{Refusal}
 use Rattle.protocol.specs.declared.types.Step.{Step}
 use Rattle.protocol.specs.World.{World}
 use Rattle.shed_core.specs.Of.{world_of, shut_with, ComesTo, IsNew}
-use Rattle.protocol.specs.Calls.{attempt, open_refusal, open_call, opened, step, after, refusals}
+use Rattle.protocol.proofs.Outcomes.{was_accepted}
+use Rattle.protocol.specs.Calls.{open_refusal, open_call, opened, step, after, refusals}
 use Rattle.conduct.specs.Conduct.{CarriedOut}
 use Rattle.shed_core.proofs.Worlds.{same_world}
 use Rattle.protocol.proofs.Guaranteed.{guaranteed}
@@ -31,11 +32,6 @@ module _ {A : Type 0} where
   put_whole (x ∷ xs) [] e = absurd (omega arith)
   put_whole (x ∷ xs) (y ∷ ys) e = put_cons ys xs y 0 ∙ ap (λ zs. y ∷ zs) (put_whole xs ys (omega arith))
 
-module _ {A S L : Type 0} (w : World S L) (a : A) (b : World S L) where
-  was_accepted : (o : Option Refusal) (y : A) → Ok y ≡ (attempt w o a b).0 → (o ≡ None) × ((attempt w o a b).1 ≡ b)
-  was_accepted None y e = (refl, refl)
-  was_accepted (Some f) y e = absurd (let z : ◌≡◌ {A = ℕ} 0 1 = cc in omega arith)
-
 module _ {S L : Type 0} (R : Behaviour S L) (face : Interface R) (laws : Laws R) (values : List ℕ) (small : (p : ℕ) → p < length values → get_or values p 0 < 2 ^ 16) (steps : List Step)
     (fresh s : Shed) (b b' : Buffers S L) (new : IsNew fresh) (r : Result ℕ Refusal) (opening : ComesTo r (world_of s b') (open_call R (world_of fresh b) values)) where
   is_shut : world_of fresh b ≡ shut_with b
@@ -50,9 +46,9 @@ module _ {S L : Type 0} (R : Behaviour S L) (face : Interface R) (laws : Laws R)
       length blank ≡ length steps → told ≡ put blank 0 (refusals R (world_of s b') steps) →
       CarriedOut R values steps (shut_with b) t told left
   carried_out y t left blank told e ends many tells =
-      let d = was_accepted (shut_with b) (length values) (opened R (shut_with b) values) (open_refusal R (shut_with b) values) y (sym e ∙ call.answers) in
+      let d = was_accepted (shut_with b) (opened R (shut_with b) values) (length values) (open_refusal R (shut_with b) values) y (sym e ∙ call.answers) in
       let first = opened R (shut_with b) values in
-      let same : world_of s b' ≡ first = call.leaves ∙ d.1 in
+      let same : world_of s b' ≡ first = call.leaves ∙ d.2 in
       record {
         opens = d.0;
         leaves = ends ∙ ap (λ w. after R w steps) same;

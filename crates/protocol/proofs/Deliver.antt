@@ -1,27 +1,25 @@
 -- An accepted delivery keeps the invariant: the frame is its slip's, and it meets the fate that the tally's note tells.
-use Rattle.std.proofs.Common.{◌≡◌, ℕ, ◌+◌, ◌*◌, ◌^◌, ◌<◌, ◌≤◌, Bool, true, false, not, ◌&&◌, ◌||◌, T, eqb, ltb, leb, List, [], ◌∷◌, length, get_or, set, Some, None, Err, Option, Result, sym, refl, ◌∙◌, subst, inl, inr, arith}
+use Rattle.std.proofs.Common.{◌≡◌, ℕ, ◌+◌, ◌*◌, ◌^◌, ◌<◌, ◌≤◌, Bool, true, false, not, ◌&&◌, ◌||◌, T, eqb, ltb, List, length, get_or, set, Some, sym, refl, ◌∙◌, subst, inl, inr, arith}
 use mathlib.Core.Path.{fun_ext}
 use Rattle.std.specs.Result.{result_err}
 use Rattle.std.proofs.lemmas.List.{length-set, get_or-set_same, get_or-set_other}
-use Rattle.std.proofs.lemmas.Bool.{cases_eq, ltb-true, ltb-false, eqb-true, eq-eqb, ne_eqb, le-ltb, true≢false, false≢true, and_parts, cond_both, not-true, or_left, or_right, and_from}
+use Rattle.std.proofs.lemmas.Bool.{cases_eq, ltb-false, eqb-true, eq-eqb, ne_eqb, le-ltb, false≢true, and_parts, not-true, or_left, or_right, and_from}
 use Rattle.rules.specs.Rule.{Behaviour, Interface, Laws, lockstep}
 use Rattle.frames.specs.Frame.{Frame}
-use Rattle.protocol.specs.declared.types.Held.{Held}
 use Rattle.protocol.specs.declared.types.StationRecord.{StationRecord}
 use Rattle.protocol.specs.declared.types.Fate.{Fate}
 use Rattle.protocol.specs.declared.types.Fate.TheVariants.{Late, Again, Taken, Early}
 use Rattle.protocol.specs.declared.types.Step.TheVariants.{Deliver}
 use Rattle.protocol.specs.World.{World, hearing, holding, station}
-use Rattle.protocol.specs.Calls.{step, without_frame, cell, is_fresh, is_down, holds, received, fate_of, frame_at, attempt, receiver_refusal, mismatched}
-use Rattle.protocol.specs.Refusals.{first_refusal}
-use Rattle.protocol.specs.declared.refusal.Refusal.{Refusal}
-use Rattle.protocol.specs.declared.refusal.Refusal.TheVariants.{Shut, BufferMismatch, NoSuchPlace, Unreadable}
+use Rattle.protocol.specs.Calls.{step, without_frame, cell, received, frame_at}
 use Rattle.protocol.specs.Tally.{Tally, Slip, heard_in, nowhere, swap_out, tally_accepted}
 use Rattle.protocol.proofs.Places.{cell_written, cell_kept}
 use Rattle.frames.proofs.RoundTrip.{reads_back}
-use Rattle.lists.proofs.Options.{none_some, passed, same_some}
+use Rattle.lists.proofs.Options.{none_some, same_some}
 use Rattle.rules.proofs.Runs.{run_fits}
-use Rattle.protocol.proofs.Invariant.{Inv, Brought, Seated, sound_below, Follows, attempted}
+use Rattle.protocol.proofs.Outcomes.{deliver_by}
+use Rattle.protocol.proofs.Judgements.{Taking, Judged, judged_so}
+use Rattle.protocol.proofs.Invariant.{Inv, Brought, Carry, Seated, sound_below, Follows}
 use Rattle.protocol.proofs.Pool.{frame_out}
 use Rattle.protocol.proofs.Change.{station_changed}
 
@@ -43,10 +41,6 @@ early_note false true true = refl
 early_note false true false = refl
 early_note false false b = refl
 
-no_hold : (o : Option Held) → holds o ≡ false → o ≡ None
-no_hold None e = refl
-no_hold (Some h) e = absurd (true≢false e)
-
 -- the slip is noted for this receiver, round and sender, and not too late
 said : (t : Tally) (s : Slip) (p r q : ℕ) →
     (eqb s.receiver p && eqb s.round r && eqb s.sender q && not (ltb s.round (t.rounds s.receiver))) ≡ true →
@@ -65,8 +59,7 @@ says t s p r q ep er eq h =
 module _ {S L : Type 0} (R : Behaviour S L) (values : List ℕ) (B : ℕ) (w : World S L) (t : Tally) (i : Inv R values B w t)
     (letters : w.n * (w.n + 1) ≤ length w.letters) (s : Slip) (l : L) (to : s.receiver < length values)
     (b : Brought R values (heard_in t.triples) t.rounds (Some l) s.sender s.round s.receiver)
-    (few : length values ≤ 16)
-    (up : is_down (station w s.receiver).stand ≡ false) (ready : is_fresh (station w s.receiver).stand ≡ false) (free : (station w s.receiver).hold ≡ None) where
+    (few : length values ≤ 16) where
   abbrev f : Frame L
   f = (s.sender, s.receiver, s.round, l)
 
@@ -81,12 +74,12 @@ module _ {S L : Type 0} (R : Behaviour S L) (values : List ℕ) (B : ℕ) (w : W
   late : s.round < old.round → Inv R values B (received R w f Late) (noted t s)
   late h = same_notes (λ p r q. absorbed _ _ (λ e. absurd (omega (arith, (said t s p r q e).3, (i.seats s.receiver to).round))))
 
-  again : s.round ≡ old.round → get_or old.heard s.sender false ≡ true → Inv R values B (received R w f Again) (noted t s)
-  again h e = same_notes (λ p r q. absorbed _ _ (λ m.
+  again : Taking old → s.round ≡ old.round → get_or old.heard s.sender false ≡ true → Inv R values B (received R w f Again) (noted t s)
+  again taking h e = same_notes (λ p r q. absorbed _ _ (λ m.
       let k = said t s p r q m in
       let at : Seated R values w t s.receiver = i.seats s.receiver to in
       let n : t.notes s.receiver s.round s.sender ≡ true =
-      (at.live up).noted s.round s.sender k.3 ∙ rw (eq-eqb s.round (t.rounds s.receiver) (h ∙ at.round), e) in
+      (at.live taking.up).noted s.round s.sender k.3 ∙ rw (eq-eqb s.round (t.rounds s.receiver) (h ∙ at.round), e) in
       rw (k.0, k.1, k.2) at n))
 
   -- at other stations
@@ -99,10 +92,10 @@ module _ {S L : Type 0} (R : Behaviour S L) (values : List ℕ) (B : ℕ) (w : W
   here : s.receiver < w.n
   here = omega (arith, i.n_is, to)
 
-  taken : s.round ≡ old.round → Inv R values B (received R w f Taken) (noted t s)
-  taken h =
+  taken : Taking old → s.round ≡ old.round → Inv R values B (received R w f Taken) (noted t s)
+  taken taking h =
       let at : Seated R values w t s.receiver = i.seats s.receiver to in
-      let a = at.live up in
+      let a = at.live taking.up in
       let n_is : w.n ≡ length values = i.n_is in
       let x : ℕ = s.sender in
       let now : s.round ≡ t.rounds s.receiver = h ∙ at.round in
@@ -130,17 +123,17 @@ module _ {S L : Type 0} (R : Behaviour S L) (values : List ℕ) (B : ℕ) (w : W
                 let c = a.marked q (sym (get_or-set_other old.heard x q true false eq) ∙ m) in
                 rw (cell_kept w.letters w.n s.receiver x l hx s.receiver q (omega (arith, c.sender)) (λ _ z. eq z)) c
           ];
-          holding = λ x y. absurd (none_some (sym free ∙ y));
-          ahead = λ x y. absurd (none_some (sym free ∙ y));
-          later = λ _ x y. absurd (none_some (sym free ∙ y));
-          silent = λ y. absurd (false≢true (sym ready ∙ y));
+          holding = λ x y. absurd (none_some (sym taking.free ∙ y));
+          ahead = λ x y. absurd (none_some (sym taking.free ∙ y));
+          later = λ _ x y. absurd (none_some (sym taking.free ∙ y));
+          silent = λ y. absurd (false≢true (sym taking.ready ∙ y));
         };
       })
 
-  early : old.round < s.round → Inv R values B (received R w f Early) (noted t s)
-  early h =
+  early : Taking old → old.round < s.round → Inv R values B (received R w f Early) (noted t s)
+  early taking h =
       let at : Seated R values w t s.receiver = i.seats s.receiver to in
-      let a = at.live up in
+      let a = at.live taking.up in
       let n_is : w.n ≡ length values = i.n_is in
       let ahead : t.rounds s.receiver < s.round = omega (arith, at.round) in
       station_changed R values B w t i s.receiver (holding old (record { sender = s.sender; round = s.round }))
@@ -150,30 +143,24 @@ module _ {S L : Type 0} (R : Behaviour S L) (values : List ℕ) (B : ℕ) (w : W
         state = at.state;
         live = λ _. record {
           places = a.places;
-          noted = λ r q g. rw (a.noted r q g, free, eq-eqb s.receiver s.receiver refl, le-ltb s.round (t.rounds s.receiver) (omega arith))
+          noted = λ r q g. rw (a.noted r q g, taking.free, eq-eqb s.receiver s.receiver refl, le-ltb s.round (t.rounds s.receiver) (omega arith))
               (early_note (eqb r (t.rounds s.receiver) && get_or old.heard q false) (eqb s.round r) (eqb s.sender q));
           marked = λ q m. let c = a.marked q m in rw (cell_kept w.letters w.n s.receiver w.n l (omega arith) s.receiver q (omega (arith, c.sender)) (λ _ z. absurd (omega (arith, c.sender)))) c;
           holding = λ x y. rw (← same_some y, cell_written w.letters w.n s.receiver w.n l (omega arith) letters here) b;
           ahead = λ x y. rw (← same_some y) (omega arith);
           later = λ _ x y. rw (← same_some y) ahead;
-          silent = λ y. absurd (false≢true (sym ready ∙ y));
+          silent = λ y. absurd (false≢true (sym taking.ready ∙ y));
         };
       })
 
+  met : (x : Fate) → Judged old s.sender s.round x → Inv R values B (received R w f x) (noted t s)
+  met Late h = late h
+  met Again h = again h.0 h.1 h.2
+  met Taken h = taken h.0 h.1
+  met Early h = early h.0 h.1
+
 module _ {S L : Type 0} (R : Behaviour S L) (face : Interface R) (laws : Laws R) (values : List ℕ) (small : (p : ℕ) → p < length values → get_or values p 0 < 2 ^ 16)
     (few : length values ≤ 16) (B : ℕ) (w : World S L) (t : Tally) (i : Inv R values B w t) (k : ℕ) where
-  abbrev outcome : Option Refusal → Option (Frame L) → Result Fate Refusal × World S L
-  outcome b o = elim b [
-    | Some r ↦ (Err r, w)
-    | None ↦ elim o [
-      | None ↦ (Err Unreadable, w)
-      | Some f ↦ attempt w (receiver_refusal R w f) (fate_of R w f) (received R (without_frame R w k) f (fate_of R w f))
-    ]
-  ]
-
-  abbrev before : Option Refusal
-  before = first_refusal ((eqb w.n 0, Shut) ∷ (mismatched R w, BufferMismatch) ∷ (leb w.frames k, NoSuchPlace) ∷ [])
-
   abbrev s : Slip
   s = get_or t.slips k nowhere
 
@@ -181,10 +168,12 @@ module _ {S L : Type 0} (R : Behaviour S L) (face : Interface R) (laws : Laws R)
   abbrev t₁ : Tally
   t₁ = record t { slips = swap_out nowhere t.slips k }
 
-  frame_is : (h : k < w.frames) → let c = i.carried k (omega (arith, i.frames_are)) in
-      frame_at R w k ≡ Some ((s.sender, s.receiver, s.round, c.letter))
+  carry : k < w.frames → Carry R values (heard_in t.triples) t.rounds (get_or w.pool k 0) s
+  carry h = i.carried k (omega (arith, i.frames_are))
+
+  frame_is : (h : k < w.frames) → frame_at R w k ≡ Some ((s.sender, s.receiver, s.round, (carry h).letter))
   frame_is h =
-      let c = i.carried k (omega (arith, i.frames_are)) in
+      let c = carry h in
       let b = c.brought in
       let n_is : w.n ≡ length values = i.n_is in
       let fits : T (R.letter_fits c.letter) =
@@ -193,33 +182,13 @@ module _ {S L : Type 0} (R : Behaviour S L) (face : Interface R) (laws : Laws R)
       rw c.word_is (reads_back R laws w.n s.sender s.receiver s.round c.letter (omega arith) (omega (arith, b.sender)) (omega (arith, c.to))
       (omega (arith, b.begun, (i.seats s.sender b.sender).limit)) fits)
 
-  come : (o : Option Refusal) → before ≡ o → Follows R values B (result_err (outcome o (frame_at R w k)).0) (outcome o (frame_at R w k)).1 t (noted t₁ s)
-  come (Some r) e = i
-  come None e =
-      let b = sound_below R w w.frames k _ _ e in
-      let h : k < w.frames = b.1 in
-      let c = i.carried k (omega (arith, i.frames_are)) in
-      let l : L = c.letter in
-      let f : Frame L = (s.sender, s.receiver, s.round, l) in
-      let old : StationRecord = station w s.receiver in
-      let v : World S L = without_frame R w k in
-      subst (λ o. Follows R values B (result_err (outcome None o).0) (outcome None o).1 t (noted t₁ s)) (sym (frame_is h))
-      (attempted R values B w (received R v f (fate_of R w f)) (receiver_refusal R w f) (fate_of R w f) t (noted t₁ s) i (λ fine.
-      let j : Inv R values B v t₁ = frame_out R values B w t i k h b.0 in
-      let x = passed (is_down old.stand) _ _ fine in
-      let y = passed (is_fresh old.stand) _ _ x.1 in
-      let free : old.hold ≡ None = no_hold old.hold (passed (holds old.hold) _ _ y.1).0 in
-      let P : Fate → Type 0 = λ fate. Inv R values B (received R v f fate) (noted t₁ s) in
-      cond_both (ltb s.round old.round) Late _ P
-      (λ e. late R values B v t₁ j b.0.letters s l c.to c.brought few x.0 y.0 free (ltb-true s.round old.round e))
-      (λ e. cond_both (ltb old.round s.round) Early _ P
-      (λ g. early R values B v t₁ j b.0.letters s l c.to c.brought few x.0 y.0 free (ltb-true old.round s.round g))
-      (λ g.
-      let now : s.round ≡ old.round = omega (arith, ltb-false s.round old.round e, ltb-false old.round s.round g) in
-      cond_both (get_or old.heard s.sender false) Again Taken P
-      (again R values B v t₁ j b.0.letters s l c.to c.brought few x.0 y.0 free now)
-      (λ _. taken R values B v t₁ j b.0.letters s l c.to c.brought few x.0 y.0 free now)))))
-
   pub delivered : Follows R values B (step R w (Deliver k)).0 (step R w (Deliver k)).1 t (tally_accepted R values t (Deliver k))
   unfolding step tally_accepted
-  delivered = come before refl
+  delivered = deliver_by R w k (λ o. Follows R values B (result_err o.0) o.1 t (noted t₁ s)) (λ r. i) (λ fine f at x judgement.
+      let b = sound_below R w w.frames k _ _ fine in
+      let c = carry b.1 in
+      let v : World S L = without_frame R w k in
+      let j : Inv R values B v t₁ = frame_out R values B w t i k b.1 b.0 in
+      let is : f ≡ (s.sender, s.receiver, s.round, c.letter) = same_some (sym at ∙ frame_is b.1) in
+      subst (λ f. Inv R values B (received R v f x) (noted t₁ s)) (sym is)
+      (met R values B v t₁ j b.0.letters s c.letter c.to c.brought few x (judged_so (station w s.receiver) s.sender s.round x (rw is at judgement))))

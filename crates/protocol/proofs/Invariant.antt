@@ -1,5 +1,5 @@
 -- How a world and a tally stand to one another after the same calls, and what stays of that as rounds go by.
-use Rattle.std.proofs.Common.{◌≡◌, ℕ, ◌+◌, ◌-◌, ◌*◌, ◌<◌, ◌≤◌, Bool, true, false, cond, ◌&&◌, ◌||◌, eqb, leb, List, [], ◌∷◌, ◌++◌, map, length, get_or, replicate, Some, None, Option, sym, refl, ◌∙◌, arith}
+use Rattle.std.proofs.Common.{◌≡◌, ℕ, ◌+◌, ◌-◌, ◌*◌, ◌<◌, ◌≤◌, Bool, true, false, cond, ◌&&◌, ◌||◌, eqb, leb, List, [], ◌∷◌, ◌++◌, map, length, get_or, replicate, Some, None, Option, sym, ◌∙◌, arith}
 use Rattle.std.specs.Result.{result_err}
 use Rattle.std.specs.List.{slice_get}
 use Rattle.std.proofs.lemmas.Bool.{or_parts, ltb-false, leb-false, eqb-true, not-false}
@@ -10,7 +10,9 @@ use Rattle.protocol.specs.declared.types.StationRecord.{StationRecord}
 use Rattle.protocol.specs.declared.refusal.Refusal.{Refusal}
 use Rattle.protocol.specs.declared.refusal.Refusal.TheVariants.{Shut, BufferMismatch}
 use Rattle.protocol.specs.World.{World, station}
-use Rattle.protocol.specs.Calls.{is_fresh, is_down, cell, state_of, attempt, mismatched}
+use Rattle.protocol.specs.Calls.{is_fresh, is_down, cell, state_of, mismatched}
+use Rattle.protocol.specs.Refusals.{attempt}
+use Rattle.protocol.proofs.Outcomes.{attempt_by}
 use Rattle.protocol.specs.Tally.{Tally, Slip, Triple, heard_in, nowhere}
 use Rattle.protocol.specs.Guarantee.{entry}
 use Rattle.rules.proofs.Runs.{Known}
@@ -161,5 +163,4 @@ module _ {S L : Type 0} (R : Behaviour S L) where
       {A : Type 0} (values : List ℕ) (B : ℕ) (w v : World S L) (o : Option Refusal) (a : A) (t t' : Tally) →
       Inv R values B w t → (o ≡ None → Inv R values B v t') →
       Follows values B (result_err (attempt w o a v).0) (attempt w o a v).1 t t'
-  attempted values B w v None a t t' i f = f refl
-  attempted values B w v (Some r) a t t' i f = i
+  attempted values B w v o a t t' i f = attempt_by w v a (λ x. Follows values B (result_err x.0) x.1 t t') o (λ r e. i) f

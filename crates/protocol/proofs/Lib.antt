@@ -1,4 +1,6 @@
 pub mod Places
+pub mod Outcomes
+pub mod Judgements
 pub mod Words
 pub mod Holds
 pub mod Invariant

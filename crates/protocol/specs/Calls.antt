@@ -18,13 +18,8 @@ use Rattle.std.specs.Result.{result_err}
 use Rattle.frames.specs.Frame.{Frame, pack_frame, read_frame}
 use Rattle.frames.specs.Book.{pack_entry}
 use Rattle.frames.specs.Pool.{take_out}
-use Rattle.protocol.specs.Refusals.{first_refusal}
+use Rattle.protocol.specs.Refusals.{first_refusal, first_outcome, attempt}
 use Rattle.protocol.specs.World.{World, blank, hearing, holding, station}
-
--- a refused call leaves everything as it was
-abbrev pub attempt : {A W : Type 0} → W → Option Refusal → A → W → Result A Refusal × W
-attempt w None a after = (Ok a, after)
-attempt w (Some f) a after = (Err f, w)
 
 abbrev pub is_fresh : Stand → Bool
 is_fresh Fresh = true
@@ -72,17 +67,16 @@ taken_in n p (Some q) letters = copied letters (cell n p n) (cell n p q)
 abbrev pub mail : {L : Type 0} → (n p : ℕ) → List Bool → List L → ℕ → Option L
 mail n p heard letters q = cond (slice_index_or heard q false) (slice_get letters (cell n p q)) None
 
--- what becomes of a frame of round k from q at a station
-abbrev pub fate : StationRecord → (q k : ℕ) → Fate
-fate s q k = cond (nat_lt k s.round) Late (cond (nat_lt s.round k) Early (cond (slice_index_or s.heard q false) Again Taken))
-
--- what is asked of a station that a frame comes to
-abbrev pub reception_refusal : StationRecord → Option Refusal
-reception_refusal s = first_refusal ((is_down s.stand, StationDown) ∷ (is_fresh s.stand, NotListening) ∷ (holds s.hold, HoldsLetter) ∷ [])
-
--- a frame's fate, or why the station does not take it
+-- the fate of a frame of round k from q at a station, or why the station does not take it, in checking order
 abbrev pub judged : StationRecord → (q k : ℕ) → Result Fate Refusal
-judged s q k = elim (reception_refusal s) [ Some r ↦ Err r | None ↦ Ok (fate s q k) ]
+judged s q k =
+    first_outcome (
+    (is_down s.stand, Err StationDown) ∷
+    (is_fresh s.stand, Err NotListening) ∷
+    (holds s.hold, Err HoldsLetter) ∷
+    (nat_lt k s.round, Ok Late) ∷
+    (nat_lt s.round k, Ok Early) ∷
+    (slice_index_or s.heard q false, Ok Again) ∷ []) (Ok Taken)
 
 -- the records when a frame has met its fate: a sender is heard, or a letter is held
 abbrev pub received_stations : {L : Type 0} → List StationRecord → Frame L → Fate → List StationRecord
@@ -198,25 +192,22 @@ module _ {S L : Type 0} (R : Behaviour S L) where
   abbrev pub frame_at : World S L → ℕ → Option (Frame L)
   frame_at w k = read_frame R w.n (slice_index w.pool k)
 
-  abbrev pub fate_of : World S L → Frame L → Fate
-  fate_of w f = fate (station w f.1) f.0 f.2
-
   abbrev pub received : World S L → Frame L → Fate → World S L
   received w f x = with_letters (with_stations w (received_stations w.stations f x)) (received_letters w.n w.letters f x)
 
-  -- what is asked of a frame's receiver
-  abbrev pub receiver_refusal : World S L → Frame L → Option Refusal
-  receiver_refusal w f = reception_refusal (station w f.1)
+  -- what the judgement of the frame f at place k comes to
+  abbrev pub settled : World S L → ℕ → Frame L → Result Fate Refusal → Result Fate Refusal × World S L
+  settled w k f (Err r) = (Err r, w)
+  settled w k f (Ok x) = (Ok x, received (without_frame w k) f x)
+
+  -- there is no such place; the word there is no frame; or its receiver judges it
+  abbrev pub delivery : World S L → ℕ → Option Refusal → Option (Frame L) → Result Fate Refusal × World S L
+  delivery w k (Some r) o = (Err r, w)
+  delivery w k None None = (Err Unreadable, w)
+  delivery w k None (Some f) = settled w k f (judged (station w f.1) f.0 f.2)
 
   abbrev pub deliver_call : World S L → ℕ → Result Fate Refusal × World S L
-  deliver_call w k =
-      elim (place_refusal w k) [
-        | Some r ↦ (Err r, w)
-        | None ↦ elim (frame_at w k) [
-          | None ↦ (Err Unreadable, w)
-          | Some f ↦ attempt w (receiver_refusal w f) (fate_of w f) (received (without_frame w k) f (fate_of w f))
-        ]
-      ]
+  deliver_call w k = delivery w k (place_refusal w k) (frame_at w k)
 
   -- ---- drop and repeat
   abbrev pub drop_call : World S L → ℕ → Result ℕ Refusal × World S L

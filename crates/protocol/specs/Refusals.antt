@@ -1,5 +1,5 @@
--- The refusals and their numbers.
-use Rattle.std.specs.Prelude.{ℕ, Bool, cond, List, [], ◌∷◌, Some, None, Option}
+-- The refusals and their numbers, and what a refused call leaves.
+use Rattle.std.specs.Prelude.{ℕ, Bool, cond, List, [], ◌∷◌, Some, None, Ok, Err, Option, Result}
 use Rattle.frames.specs.declared.pool.PoolRefusal.{PoolRefusal}
 use Rattle.frames.specs.declared.pool.PoolRefusal.TheVariants as pool
 use Rattle.protocol.specs.declared.refusal.Refusal.{Refusal}
@@ -33,3 +33,13 @@ of_pool pool.Full = PoolFull
 abbrev pub first_refusal : List (Bool × Refusal) → Option Refusal
 first_refusal [] = None
 first_refusal (t ∷ ts) = cond t.0 (Some t.1) (first_refusal ts)
+
+-- of an ordered list of tests and outcomes, the first whose test holds, and the last outcome if none does
+abbrev pub first_outcome : {A : Type 0} → List (Bool × A) → A → A
+first_outcome [] last = last
+first_outcome (t ∷ ts) last = cond t.0 t.1 (first_outcome ts last)
+
+-- a refused call leaves everything as it was
+abbrev pub attempt : {A W : Type 0} → W → Option Refusal → A → W → Result A Refusal × W
+attempt w None a after = (Ok a, after)
+attempt w (Some f) a after = (Err f, w)

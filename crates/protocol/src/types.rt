@@ -1,4 +1,9 @@
 // What the shed keeps of a station, what it is asked to do, and what it answers.
+ghost use Rattle.std.specs.Prelude.{◌≡◌, false, slice_index_or};
+ghost use Rattle.protocol.specs.Calls.{judged};
+
+use crate::refusal::Refusal;
+use std::cmp::Ordering;
 
 // Where a station is in its round: it has not sent yet, it has sent and takes letters, or it has crashed for good.
 #[derive(Clone, Copy, Debug, PartialEq, Eq)]
@@ -22,6 +27,31 @@ pub struct StationRecord {
     pub stand: Stand,
     pub heard: [bool; 16],
     pub hold: Option<Held>,
+}
+
+impl StationRecord {
+    // Whether the station heard q in its round.
+    fn has_heard(&self, q: usize) -> bool
+        ensures { result ≡ slice_index_or self.now.heard q false }
+    {
+        self.heard.get(q).copied().unwrap_or(false)
+    }
+
+    // The fate of a frame of a round from a sender, or why the station does not take it: it is down, it has not sent in
+    // its round, or it holds a letter.
+    pub fn judge(&self, sender: usize, round: u16) -> Result<Fate, Refusal>
+        ensures { result ≡ judged self.now sender round }
+    {
+        match (self.stand, round.cmp(&self.round)) {
+            (Stand::Down, _) => Err(Refusal::StationDown),
+            (Stand::Fresh, _) => Err(Refusal::NotListening),
+            (Stand::Listening, _) if self.hold.is_some() => Err(Refusal::HoldsLetter),
+            (Stand::Listening, Ordering::Less) => Ok(Fate::Late),
+            (Stand::Listening, Ordering::Greater) => Ok(Fate::Early),
+            (Stand::Listening, Ordering::Equal) if self.has_heard(sender) => Ok(Fate::Again),
+            (Stand::Listening, Ordering::Equal) => Ok(Fate::Taken),
+        }
+    }
 }
 
 // What becomes of a frame that is delivered: it is of an older round; it is of the station's round and its sender was

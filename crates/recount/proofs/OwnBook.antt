@@ -12,7 +12,8 @@ use Rattle.frames.specs.Book.{book_heard}
 use Rattle.frames.proofs.Sets.{zeros_after}
 use Rattle.protocol.specs.declared.refusal.Refusal.{Refusal}
 use Rattle.protocol.specs.World.{World}
-use Rattle.protocol.specs.Calls.{attempt, opened, after, refusals}
+use Rattle.protocol.specs.Refusals.{attempt}
+use Rattle.protocol.specs.Calls.{opened, after, refusals}
 use Rattle.protocol.specs.Tally.{Triple, start, tally}
 use Rattle.protocol.specs.Guarantee.{Guarantee, entry}
 use Rattle.protocol.proofs.Start.{Opens, opens}

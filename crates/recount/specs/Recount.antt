@@ -6,7 +6,7 @@ use Rattle.frames.specs.Book.{book_heard, hears}
 use Rattle.protocol.specs.declared.refusal.Refusal.{Refusal}
 use Rattle.protocol.specs.declared.refusal.Refusal.TheVariants.{ValueCount, BufferMismatch, LastRound}
 use Rattle.protocol.specs.Refusals.{first_refusal}
-use Rattle.protocol.specs.Calls.{attempt}
+use Rattle.protocol.specs.Refusals.{attempt}
 
 -- why a run is refused, in checking order: by the rule's most stations and their number, by the shortest buffer, and where
 -- the round is too late

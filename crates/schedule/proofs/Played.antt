@@ -1,12 +1,11 @@
 -- The parts of a run and of its listing, one more at a time.
-use Rattle.std.proofs.Common.{◌≡◌, ℕ, suc, ◌+◌, ◌<◌, List, [], ◌∷◌, ◌++◌, length, get_or, drop, Some, None, Ok, Err, Option, sym, ap, ◌∙◌, append_assoc, add-one, arith}
+use Rattle.std.proofs.Common.{◌≡◌, ℕ, suc, ◌+◌, ◌<◌, List, [], ◌∷◌, ◌++◌, length, get_or, drop, Some, None, Option, sym, ap, ◌∙◌, append_assoc, add-one, arith}
 use Rattle.std.proofs.lemmas.List.{at_drop_more}
 use Rattle.rules.specs.Rule.{Behaviour}
 use Rattle.lists.proofs.Tables.{tabulate_more}
 use Rattle.protocol.specs.declared.refusal.Refusal.{Refusal}
 use Rattle.protocol.specs.declared.types.Sight.{Sight}
 use Rattle.protocol.specs.World.{World}
-use Rattle.protocol.specs.Calls.{attempt}
 use Rattle.schedule.specs.declared.printer.RefusedStep.{RefusedStep}
 use Rattle.schedule.specs.Program.{refused_from, sight, sights}
 
@@ -25,16 +24,6 @@ module _ (fs : List (Option Refusal)) (i : ℕ) (h : i < length fs) (xs whole : 
   refused_more f ys is e =
       let r : RefusedStep = record { line = i + 3; refusal = f } in
       ap (λ l. l ++ refused_from (i + 1 + 3) (drop (i + 1) fs)) e ∙ append_assoc xs (r ∷ []) (refused_from (i + 1 + 3) (drop (i + 1) fs)) ∙ ap (λ k. xs ++ r ∷ refused_from k (drop (i + 1) fs)) (sym line) ∙ next (Some f) is
-
--- ---- an attempt that changes nothing
-module _ {A S L : Type 0} (w : World S L) (a : A) where
-  pub granted : (o : Option Refusal) (x : A) → Ok x ≡ (attempt w o a w).0 → x ≡ a
-  granted None x e = cc
-  granted (Some f) x e = absurd (let z : ◌≡◌ {A = ℕ} 0 1 = cc in omega arith)
-
-  pub denied : (o : Option Refusal) (f : Refusal) → Err f ≡ (attempt w o a w).0 → o ≡ Some f
-  denied None f e = absurd (let z : ◌≡◌ {A = ℕ} 0 1 = cc in omega arith)
-  denied (Some g) f e = let same : g ≡ f = cc in ap Some same
 
 -- ---- sights
 pub one_more_sight :

@@ -1,6 +1,6 @@
 -- Every call keeps the number of stations and the lengths of the buffers, so whoever looks after a run is not refused.
 use Rattle.std.proofs.lemmas.Bool.Decides.{nat_tests}
-use Rattle.std.proofs.Common.{◌≡◌, ℕ, ◌+◌, ◌*◌, ◌<◌, ◌≤◌, List, [], ◌∷◌, length, get_or, drop, set, Some, None, Err, Option, Result, sym, refl, ◌∙◌, arith}
+use Rattle.std.proofs.Common.{◌≡◌, ℕ, ◌+◌, ◌*◌, ◌<◌, ◌≤◌, List, [], ◌∷◌, length, get_or, drop, set, Some, None, Option, sym, refl, ◌∙◌, arith}
 use Rattle.std.specs.List.{slice_get}
 use Rattle.std.proofs.lemmas.List.{length-set, length-append, length-replicate}
 use Rattle.rules.specs.Rule.{Behaviour}
@@ -9,14 +9,15 @@ use Rattle.lists.proofs.Tables.{length_put, length_tabulate}
 use Rattle.frames.specs.Frame.{Frame}
 use Rattle.frames.specs.Pool.{take_out}
 use Rattle.protocol.specs.declared.refusal.Refusal.{Refusal}
-use Rattle.protocol.specs.declared.refusal.Refusal.TheVariants.{Unreadable}
 use Rattle.protocol.specs.declared.types.Fate.{Fate}
 use Rattle.protocol.specs.declared.types.Fate.TheVariants.{Late, Again, Taken, Early}
 use Rattle.protocol.specs.declared.types.Stand.TheVariants.{Down}
 use Rattle.protocol.specs.declared.types.Step.{Step}
 use Rattle.protocol.specs.declared.types.Step.TheVariants.{Send, Deliver, Drop, Repeat, Turn, Crash}
 use Rattle.protocol.specs.World.{World, station}
-use Rattle.protocol.specs.Calls.{attempt, cell, taken_in, due, received_letters, opened, open_refusal, look_refusal, frames_of, sent, send_refusal, without_frame, fate_of, received, receiver_refusal, place_refusal, frame_at, repeat_refusal, with_pool, with_stations, deliver_call, turned, turn_refusal, crash_refusal, step, after}
+use Rattle.protocol.specs.Refusals.{attempt}
+use Rattle.protocol.proofs.Outcomes.{attempt_by, deliver_by}
+use Rattle.protocol.specs.Calls.{cell, taken_in, due, received_letters, opened, open_refusal, look_refusal, frames_of, sent, send_refusal, without_frame, received, place_refusal, repeat_refusal, with_pool, with_stations, turned, turn_refusal, crash_refusal, step, after}
 use Rattle.protocol.proofs.Invariant.{Matched}
 
 -- ---- lengths of cells
@@ -64,27 +65,8 @@ module _ {S L : Type 0} (R : Behaviour S L) where
     book = b.book ∙ a.book;
   }
 
-  -- what holds of a world and of what an accepted call leaves holds of what the call leaves
-  pub attempt_keeps : {A : Type 0} (P : World S L → Type 0) (w v : World S L) (o : Option Refusal) (a : A) → P w → P v → P (attempt w o a v).1
-  attempt_keeps P w v None a old new = new
-  attempt_keeps P w v (Some f) a old new = old
-
-  abbrev delivery : World S L → ℕ → Option Refusal → Option (Frame L) → Result Fate Refusal × World S L
-  delivery w k o x = elim o [
-    | Some r ↦ (Err r, w)
-    | None ↦ elim x [
-      | None ↦ (Err Unreadable, w)
-      | Some f ↦ attempt w (receiver_refusal R w f) (fate_of R w f) (received R (without_frame R w k) f (fate_of R w f))
-    ]
-  ]
-
-  delivered : (P : World S L → Type 0) (w : World S L) (k : ℕ) (o : Option Refusal) (x : Option (Frame L)) → P w → ((f : Frame L) (y : Fate) → P (received R (without_frame R w k) f y)) → P (delivery w k o x).1
-  delivered P w k (Some r) x old new = old
-  delivered P w k None None old new = old
-  delivered P w k None (Some f) old new = attempt_keeps P w (received R (without_frame R w k) f (fate_of R w f)) (receiver_refusal R w f) (fate_of R w f) old (new f (fate_of R w f))
-
-  pub deliver_keeps : (P : World S L → Type 0) (w : World S L) (k : ℕ) → P w → ((f : Frame L) (y : Fate) → P (received R (without_frame R w k) f y)) → P (deliver_call R w k).1
-  deliver_keeps P w k = delivered P w k (place_refusal R w k) (frame_at R w k)
+  kept : {A : Type 0} (w v : World S L) (o : Option Refusal) (a : A) → SameSizes w v → SameSizes w (attempt w o a v).1
+  kept w v o a s = attempt_by w v a (λ x. SameSizes w x.1) o (λ f e. same w) (λ e. s)
 
   sent_sizes : (w : World S L) (p : ℕ) → SameSizes w (sent R w p)
   sent_sizes w p =
@@ -118,12 +100,12 @@ module _ {S L : Type 0} (R : Behaviour S L) where
 
   step_sizes : (w : World S L) (c : Step) → SameSizes w (step R w c).1
   unfolding step
-  step_sizes w (Send p) = attempt_keeps (SameSizes w) w (sent R w p) (send_refusal R w p) (length (frames_of R w p)) (same w) (sent_sizes w p)
-  step_sizes w (Deliver k) = deliver_keeps (SameSizes w) w k (same w) (λ f y. then w (without_frame R w k) _ (without_sizes w k) (received_sizes (without_frame R w k) f y))
-  step_sizes w (Drop k) = attempt_keeps (SameSizes w) w (without_frame R w k) (place_refusal R w k) 0 (same w) (without_sizes w k)
-  step_sizes w (Repeat k) = attempt_keeps (SameSizes w) w (with_pool R w (w.frames + 1) (set w.pool w.frames (get_or w.pool k 0))) (repeat_refusal R w k) w.frames (same w) (repeated_sizes w k)
-  step_sizes w (Turn p) = attempt_keeps (SameSizes w) w (turned R w p) (turn_refusal R w p) ((station w p).round + 1) (same w) (turned_sizes w p)
-  step_sizes w (Crash p) = attempt_keeps (SameSizes w) w (crashed w p) (crash_refusal R w p) 0 (same w) (crashed_sizes w p)
+  step_sizes w (Send p) = kept w (sent R w p) (send_refusal R w p) (length (frames_of R w p)) (sent_sizes w p)
+  step_sizes w (Deliver k) = deliver_by R w k (λ o. SameSizes w o.1) (λ r. same w) (λ e f h y j. then w (without_frame R w k) _ (without_sizes w k) (received_sizes (without_frame R w k) f y))
+  step_sizes w (Drop k) = kept w (without_frame R w k) (place_refusal R w k) 0 (without_sizes w k)
+  step_sizes w (Repeat k) = kept w (with_pool R w (w.frames + 1) (set w.pool w.frames (get_or w.pool k 0))) (repeat_refusal R w k) w.frames (repeated_sizes w k)
+  step_sizes w (Turn p) = kept w (turned R w p) (turn_refusal R w p) ((station w p).round + 1) (turned_sizes w p)
+  step_sizes w (Crash p) = kept w (crashed w p) (crash_refusal R w p) 0 (crashed_sizes w p)
 
   after_sizes : (w : World S L) (cs : List Step) → SameSizes w (after R w cs)
   unfolding after

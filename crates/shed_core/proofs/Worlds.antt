@@ -3,7 +3,7 @@ use Rattle.std.proofs.Common.{◌≡◌, ℕ, List, IsErrAnd, Some, None, Ok, Er
 use Rattle.protocol.specs.declared.types.StationRecord.{StationRecord}
 use Rattle.protocol.specs.declared.refusal.Refusal.{Refusal}
 use Rattle.protocol.specs.World.{World}
-use Rattle.protocol.specs.Calls.{attempt}
+use Rattle.protocol.specs.Refusals.{attempt}
 use Rattle.shed_core.specs.Of.{ComesTo}
 
 pub same_world :

@@ -3,7 +3,7 @@ ghost use Rattle.std.specs.Prelude.{◌≡◌, ◌<◌, replicate, slice_index_o
 ghost use Rattle.protocol.specs.World.{blank, hearing, holding};
 
 use crate::cells::store;
-use protocol::types::{Held, StationRecord, Stand};
+use protocol::types::{Held, Stand, StationRecord};
 
 // One record for each of sixteen stations, so that a table asks for no memory; a shed with fewer uses the first.
 #[derive(Clone, Copy, Debug, PartialEq, Eq)]

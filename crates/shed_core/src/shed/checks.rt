@@ -5,7 +5,7 @@ ghost use Rattle.shed_core.specs.Checks.{Checked, is_in, fit_tests, record_of, s
 use crate::buffers::Buffers;
 use crate::shed::Shed;
 use protocol::refusal::Refusal;
-use protocol::types::{StationRecord, Stand};
+use protocol::types::{Stand, StationRecord};
 use rules::LAST_ROUND;
 
 // The station's record, unless the station is in the stand.

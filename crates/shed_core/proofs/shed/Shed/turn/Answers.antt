@@ -4,7 +4,8 @@ use Rattle.protocol.specs.Calls.{turned, turn_refusal}
 use Rattle.shed_core.specs.Of.{world_of}
 use Rattle.shed_core.specs.Checks.{fit_tests, turner_tests, record_of}
 use Rattle.shed_core.proofs.Stations.{rounds_kept, holds_kept}
-use Rattle.shed_core.proofs.Turning.{first_fails, turns}
+use Rattle.protocol.proofs.Outcomes.{refused_first}
+use Rattle.shed_core.proofs.Turning.{turns}
 use Rattle.shed_core.proofs.Worlds.{refused}
 use Rattle.shed_core.proofs.shed.Shed.turn.Goals as goal
 
@@ -18,7 +19,7 @@ returns-in_err-ready-clause-call g c =
     let asked = fit_tests s (length b.states.now) (length b.letters.now) (length b.pool.now) (length b.book.now) in
     let f = c.in_err-ready.field-0.0 in
     refused w (turned R w p) ((station w p).round + 1) (turn_refusal R w p) f c.from_residual.result
-    (first_fails asked (turner_tests s.count p (record_of s p) s.entries s.book_len) f c.in_err-ready.ensures) c.from_residual.ensures.1
+    (refused_first asked (turner_tests s.count p (record_of s p) s.entries s.book_len) f c.in_err-ready.ensures) c.from_residual.ensures.1
 
 pub invariant_of-self : goal.invariant_of-self
 invariant_of-self g c =
