@@ -2,7 +2,7 @@
 // adopt it, they acknowledge it, and they decide.
 #![tactic(auto)]
 
-ghost use Rattle.std.specs.Prelude.{◌≡◌, ◌*◌, ◌^◌, ◌<◌, ◌≤◌, Some, nat_lt};
+ghost use Rattle.std.specs.Prelude.{◌≡◌, ◌*◌, ◌^◌, ◌<◌, ◌≤◌, Some, nat_lt, refl};
 ghost use Rattle.last.specs.Last.{last, stamped, counted, phase, coordinator, heard, later, latest, VotesForLatest, collect, adopt, acknowledge, decide};
 ghost use Rattle.last.specs.Laws.{last_interface, last_laws};
 ghost use Rattle.std.proofs.Common.{rules};
@@ -155,18 +155,17 @@ impl Rule for Last {
 
     const MAX_STATIONS: usize = 16;
 
+    ghost MAX_STATIONS = { 16 };
+
     ghost behaviour = { λ _. last };
 
     ghost room = { Prim.search rules };
 
+    ghost most = { λ rule. refl };
+
     ghost interface = { λ rule. last_interface };
 
     ghost laws = { λ rule. last_laws };
-
-    // Not a body in the trait: there nothing ties the constant to the behaviour.
-    fn most(&self) -> usize {
-        Self::MAX_STATIONS
-    }
 
     fn first(&self, _n: usize, _station: usize, value: u16) -> State {
         State {

@@ -10,7 +10,7 @@ use rules::Rule;
 pub fn check<R: Rule>(rule: &R, n: usize, shortest: usize, late: bool) -> Result<(), Refusal>
     ensures { MatchResult result (λ _. run_refusal (R.Rule.behaviour rule.now).most n shortest late ≡ None) (λ f. run_refusal (R.Rule.behaviour rule.now).most n shortest late ≡ Some f) }
 {
-    if n == 0 || n > rule.most() {
+    if n == 0 || n > R::MAX_STATIONS {
         return Err(Refusal::ValueCount);
     }
     if shortest < n {

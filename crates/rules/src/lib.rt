@@ -1,7 +1,7 @@
 // What every voting rule offers and shows.
 #![tactic(auto)]
 
-ghost use Rattle.std.specs.Prelude.{◌≡◌, ◌^◌, ◌<◌, ◌≤◌, length, is_some, count_by, slice_index};
+ghost use Rattle.std.specs.Prelude.{◌≡◌, ℕ, ◌^◌, ◌<◌, ◌≤◌, length, is_some, count_by, slice_index};
 ghost use Rattle.lists.specs.Lists.{tabulate, put};
 ghost use Rattle.rules.specs.Rule.{Behaviour, Interface, Laws, MailboxRoom, outside};
 
@@ -22,11 +22,9 @@ pub trait Rule {
     // The most stations, 1 to 16.
     const MAX_STATIONS: usize;
 
-    ghost behaviour: { Self → Behaviour Self.State Self.Letter };
+    ghost MAX_STATIONS: { ℕ };
 
-    // The most stations, as a caller that knows only the trait can read it.
-    fn most(&self) -> usize
-        ensures { result ≡ (behaviour self.now).most };
+    ghost behaviour: { Self → Behaviour Self.State Self.Letter };
 
     // A station's first state, from its opening value.
     fn first(&self, n: usize, station: usize, value: u16) -> Self::State
@@ -69,6 +67,9 @@ pub trait Rule {
 
     // sixteen places, each with a letter or nothing, fit in memory
     ghost room: { MailboxRoom Self.Letter.row };
+
+    // the constant is the behaviour's most
+    ghost most: { (rule : Self) → (behaviour rule).most ≡ MAX_STATIONS };
 
     ghost interface: { (rule : Self) → Interface (behaviour rule) };
 

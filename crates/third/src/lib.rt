@@ -1,7 +1,7 @@
 // OneThirdRule: a station that hears more than two thirds of the stations takes the value that it hears most often.
 #![tactic(auto)]
 
-ghost use Rattle.std.specs.Prelude.{◌≡◌, ◌*◌, ◌≤◌, false, length, nat_lt};
+ghost use Rattle.std.specs.Prelude.{◌≡◌, ◌*◌, ◌≤◌, false, length, nat_lt, refl};
 ghost use Rattle.rules.specs.Rule.{outside};
 ghost use Rattle.third.specs.Third.{third, occurs, before, most_frequent, Moves};
 ghost use Rattle.third.specs.Laws.{third_interface, third_laws};
@@ -88,18 +88,17 @@ impl Rule for Third {
 
     const MAX_STATIONS: usize = 16;
 
+    ghost MAX_STATIONS = { 16 };
+
     ghost behaviour = { λ _. third };
 
     ghost room = { Prim.search rules };
 
+    ghost most = { λ rule. refl };
+
     ghost interface = { λ rule. third_interface };
 
     ghost laws = { λ rule. third_laws };
-
-    // Not a body in the trait: there nothing ties the constant to the behaviour.
-    fn most(&self) -> usize {
-        Self::MAX_STATIONS
-    }
 
     fn first(&self, _n: usize, _station: usize, value: u16) -> State {
         State { value, hull: None }

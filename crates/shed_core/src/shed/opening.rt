@@ -46,7 +46,7 @@ impl Shed {
         if self.count != 0 {
             return Err(Refusal::AlreadyOpen);
         }
-        if n == 0 || n > rule.most() {
+        if n == 0 || n > R::MAX_STATIONS {
             return Err(Refusal::ValueCount);
         }
         let pool = buffers.pool.len();
