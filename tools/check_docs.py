@@ -1,0 +1,271 @@
+#!/usr/bin/env python3
+"""Checks what the pages (README.md, docs/, examples/README.md, peer/README.md) say of the repository: links and anchors, paths, names
+beside a link to a source file, names of the code anywhere, counted numbers, the examples that can be followed by hand, and that
+docs/REFERENCE.md is fresh. Prints each thing that is not so, and ends with status 1 if there is one.
+
+usage: python3 tools/check_docs.py              at the top of the repository
+       python3 tools/check_docs.py --write      writes the counted numbers into docs/MAINTAINING.md first, and docs/REFERENCE.md
+       python3 tools/check_docs.py --program P  also runs the program P on every schedule of the pages, and compares
+"""
+
+import pathlib
+import re
+import subprocess
+import sys
+
+PAGES = [pathlib.Path("README.md"), *sorted(pathlib.Path("docs").glob("*.md")), pathlib.Path("examples/README.md"), pathlib.Path("peer/README.md")]
+# Pages on what was: their names are those of that time.
+HISTORY = {"PORT.md", "DESIGN-PASS.md"}
+MADE = ("crates/shed/out", "crates/peer_bridge/out", "target/", "../crates/shed/out", "../crates/peer_bridge/out")
+# Names of the kit, of Rust and of the pages' own examples that stand in no file of ours.
+ELSEWHERE = set("os_error rt_try MatchOption with_capacity from_utf8 split_inclusive iter_mut proved_no TryFrom FromStr my_rule my_rule_kinds".split())
+
+said = []
+
+
+def wrong(page, line, text):
+    said.append(f"{page}:{line}: {text}")
+
+
+def tracked():
+    return subprocess.run(["git", "ls-files"], capture_output=True, text=True, check=True).stdout.split()
+
+
+# ---- links and anchors
+
+
+def slug(title):
+    title = re.sub(r"\[([^\]]*)\]\([^)]*\)", r"\1", re.sub(r"<[^>]*>", "", title)).strip().lower()
+    return re.sub(r"[^\w\- ]", "", title).replace(" ", "-")
+
+
+def outside_code(text):
+    """The lines of a page with their numbers, without what stands in fences."""
+    fenced = False
+    for number, line in enumerate(text.split("\n"), 1):
+        if line.strip().startswith("```"):
+            fenced = not fenced
+        elif not fenced:
+            yield number, line
+
+
+def anchors(page):
+    text = page.read_text("utf-8")
+    found = set(re.findall(r'<a id="([^"]+)"', text))
+    for _, line in outside_code(text):
+        if re.match(r"#+ ", line):
+            found.add(slug(line.lstrip("#")))
+    return found
+
+
+def links(line):
+    return [(text, target) for text, target in re.findall(r"\[((?:[^\[\]]|\[[^\]]*\])*)\]\(([^)\s]+)\)", line) if "://" not in target]
+
+
+def check_links(page):
+    for number, line in outside_code(page.read_text("utf-8")):
+        for _, target in links(line):
+            path, _, anchor = target.partition("#")
+            there = page if not path else page.parent / path
+            if not there.exists():
+                wrong(page, number, f"no such file: {target}")
+            elif anchor and there.suffix == ".md" and anchor not in anchors(there):
+                wrong(page, number, f"no such anchor: {target}")
+
+
+# ---- paths and names
+
+
+def words_of(path):
+    return set(re.findall(r"[^\W\d][\w]*", path.read_text("utf-8", errors="replace")))
+
+
+def code_words():
+    """Every word of the code, the definitions, the proofs, the scripts and the names of files."""
+    found = set()
+    for name in tracked():
+        if not name.endswith(".md") and pathlib.Path(name).exists():
+            found |= words_of(pathlib.Path(name))
+        found.update(re.findall(r"[^\W\d]\w*", name))
+    return found
+
+
+def ticks(text):
+    return re.findall(r"`([^`]+)`", text)
+
+
+def names_in(tick):
+    """The names of the code in something between backticks: of `Shed::open`, both."""
+    return re.findall(r"[^\W\d]\w*", tick) if re.fullmatch(r"[\w:<>, &'\[\]()]+", tick) else []
+
+
+def source(page, target):
+    path = page.parent / target.partition("#")[0]
+    return path if path.suffix in (".rt", ".antt", ".rs", ".sh", ".py") and path.exists() else None
+
+
+def check_names(page, known):
+    for number, line in outside_code(page.read_text("utf-8")):
+        if line.startswith("    "):
+            continue
+        for tick in ticks(line):
+            path = re.fullmatch(r"(?:\.\./)*((?:crates|docs|examples|tools|peer|\.ci)/[\w./-]+)", tick)
+            if path and not any(m in tick for m in MADE) and not (page.parent / tick).exists() and not pathlib.Path(tick).exists():
+                wrong(page, number, f"no such path: {tick}")
+            for name in names_in(tick):
+                if ("_" in name.strip("_") or re.search(r"[a-z][A-Z]", name)) and name not in known and name not in ELSEWHERE:
+                    wrong(page, number, f"no such name in the code: {name}")
+        cells = line.split("|") if line.startswith("|") else [text for text, target in []]
+        for cell in cells:
+            files = [f for f in (source(page, target) for _, target in links(cell)) if f]
+            if files:
+                there = set().union(*(words_of(f) for f in files)) | {f.stem for f in files}
+                for name in (n for tick in ticks(cell) for n in names_in(tick)):
+                    if name not in there:
+                        wrong(page, number, f"{name} does not stand in {', '.join(str(f) for f in files)}")
+        if not line.startswith("|"):
+            for text, target in links(line):
+                file = source(page, target)
+                for name in (n for tick in ticks(text) for n in names_in(tick)):
+                    if file and name not in words_of(file) | {file.stem}:
+                        wrong(page, number, f"{name} does not stand in {file}")
+
+
+# ---- numbers that are counted
+
+
+def crate_names():
+    return [line.split(":")[0].split()[0] for line in open("crates.txt", encoding="utf-8") if line.split("#")[0].strip()]
+
+
+def count_lines(names, folder):
+    return sum(len(path.read_text("utf-8").split("\n")) - 1 for name in names for path in pathlib.Path("crates", name, folder).rglob("*.*t") if path.suffix in (".rt", ".antt"))
+
+
+def counted():
+    """The table of what there is, as MAINTAINING shows it."""
+    names = crate_names()
+    rows = [
+        "| crate | code (`src/`) | definitions and statements (`specs/`) | proofs (`proofs/`) | edits (`must-fail/`) |",
+        "|---|---|---|---|---|",
+    ]
+    sums = [0, 0, 0, 0]
+    for name in names:
+        row = [count_lines([name], folder) for folder in ("src", "specs", "proofs")] + [len(list(pathlib.Path("crates", name, "must-fail").glob("*.edit")))]
+        sums = [a + b for a, b in zip(sums, row)]
+        rows.append(f"| `{name}` | " + " | ".join(f"{n:,}" if n else "" for n in row) + " |")
+    rows.append(f"| {len(names)} crates | " + " | ".join(f"{n:,}" for n in sums) + " |")
+    return "\n".join(rows)
+
+
+COUNTS = re.compile(r"(<!-- counted -->\n).*?(\n<!-- /counted -->)", re.S)
+
+
+def check_counts(write):
+    page = pathlib.Path("docs/MAINTAINING.md")
+    text = page.read_text("utf-8")
+    fresh = COUNTS.sub(lambda m: m.group(1) + counted() + m.group(2), text)
+    if write:
+        page.write_text(fresh, "utf-8")
+    elif fresh != text or not COUNTS.search(text):
+        wrong(page, 0, "the counted numbers are not fresh (--write writes them)")
+
+
+# ---- examples
+
+
+def fenced(text):
+    return re.findall(r"^```(\w*)\n(.*?)^```", text, re.M | re.S)
+
+
+def check_pool(page):
+    """A table with the pool after each step: the frames are made, taken out and copied again, for a rule whose stations always write to all."""
+    pool, rounds, stations = [], {}, 0
+    for number, line in outside_code(page.read_text("utf-8")):
+        cells = [cell.strip().strip("`") for cell in line.strip().strip("|").split("|")]
+        if len(cells) < 4 or not re.fullmatch(r"\d+", cells[0]):
+            continue
+        step = re.fullmatch(r"([sdxrtc]) (\d+)", cells[1])
+        if cells[1].startswith("values "):
+            pool, rounds, stations = [], {}, len(cells[1].split()) - 1
+        if not step:
+            continue
+        if not stations:
+            stations = 2
+        letter, at = step.group(1), int(step.group(2))
+        if cells[0] == "3" and letter == "s":
+            pool, rounds = [], {}
+        if not re.search(r"refused", " ".join(cells[2:])):
+            if letter == "s":
+                pool += [f"{at}>{q}@{rounds.get(at, 0)}" for q in range(stations)]
+            elif letter == "r":
+                pool.append(pool[at])
+            elif letter in "dx":
+                pool[at] = pool[-1]
+                pool.pop()
+            elif letter == "t":
+                rounds[at] = rounds.get(at, 0) + 1
+        shown = next((cell for cell in cells[2:] if re.match(r"\d+>\d+@\d+|empty$|the same$", cell)), None)
+        if shown not in ("the same", ", ".join(pool) or "empty"):
+            wrong(page, number, f"the pool is {', '.join(pool) or 'empty'}")
+
+
+def check_shown():
+    """What the first page shows of files is what stands in them."""
+    readme = pathlib.Path("README.md").read_text("utf-8")
+    first = pathlib.Path("examples/first.schedule").read_text("utf-8").split("\n")[:-1]
+    table = re.findall(r"^\| (\d+) \| `([^`]+)` \|", readme, re.M)
+    if [text for _, text in table] != first or [int(n) for n, _ in table] != list(range(1, len(first) + 1)):
+        wrong("README.md", 0, "the table's lines are not those of examples/first.schedule")
+    listing = "".join(f"    {line}\n" for line in pathlib.Path("examples/first.listing").read_text("utf-8").split("\n")[:-1])
+    if listing not in readme:
+        wrong("README.md", 0, "examples/first.listing is not shown")
+    program = pathlib.Path("crates/library_example/src/main.rt")
+    if program.exists() and f"```rust\n{program.read_text('utf-8')}```" not in readme:
+        wrong("README.md", 0, f"{program} is not shown as it is")
+
+
+def run(program, text):
+    return subprocess.run([program], input=text.encode("utf-8"), capture_output=True, check=False).stdout.decode("utf-8")
+
+
+def check_program(program):
+    for path in sorted(pathlib.Path("examples").glob("*.schedule")):
+        if run(program, path.read_text("utf-8")) != path.with_suffix(".listing").read_text("utf-8"):
+            wrong(path, 0, "the program prints another listing")
+    page = pathlib.Path("docs/SCHEDULE.md")
+    text = page.read_text("utf-8")
+    blocks = [body for _, body in fenced(text)]
+    for one, two in zip(blocks, blocks[1:]):
+        if one.startswith("rule ") and run(program, one) != two:
+            wrong(page, 0, f"the program prints another listing of {one!r}")
+    for shown, printed in re.findall(r"^\| `([^`]*\\n[^`]*|[a-z ]+)` \| `(fault [^`]+)` \|", text, re.M):
+        made = shown.replace("\\n", "\n").replace("\\r", "\r")
+        if run(program, made) != printed + "\n":
+            wrong(page, 0, f"the program prints {run(program, made)!r} of {shown}")
+
+
+def main():
+    args = sys.argv[1:]
+    write = "--write" in args
+    if write:
+        subprocess.run([sys.executable, "tools/reference.py"], check=True)
+    elif subprocess.run([sys.executable, "tools/reference.py", "--check"], capture_output=True, check=False).returncode:
+        wrong("docs/REFERENCE.md", 0, "not fresh (tools/reference.py writes it)")
+    check_counts(write)
+    known = code_words()
+    for page in PAGES:
+        check_links(page)
+        if page.name not in HISTORY:
+            check_names(page, known)
+    check_pool(pathlib.Path("README.md"))
+    check_pool(pathlib.Path("docs/SCHEDULE.md"))
+    check_shown()
+    if "--program" in args:
+        check_program(args[args.index("--program") + 1])
+    print("\n".join(said + [f"{len(PAGES)} pages, {len(said)} things that are not so"]))
+    return 1 if said else 0
+
+
+if __name__ == "__main__":
+    sys.exit(main())
