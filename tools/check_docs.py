@@ -6,6 +6,7 @@ docs/REFERENCE.md is fresh. Prints each thing that is not so, and ends with stat
 usage: python3 tools/check_docs.py              at the top of the repository
        python3 tools/check_docs.py --write      writes the counted numbers into docs/MAINTAINING.md first, and docs/REFERENCE.md
        python3 tools/check_docs.py --program P  also runs the program P on every schedule of the pages, and compares
+       python3 tools/check_docs.py --guide D    only writes the files of docs/WRITE-A-RULE.md below the folder D, to be checked there
 """
 
 import pathlib
@@ -105,12 +106,16 @@ def source(page, target):
 
 
 def check_names(page, known):
-    for number, line in outside_code(page.read_text("utf-8")):
+    text = page.read_text("utf-8")
+    shown = {name for _, body in fenced(text) for name in re.findall(r"[^\W\d]\w*", body)}
+    made = tuple(MADE) + tuple("/".join(name.split("/")[:2]) for name in guide_files(text))
+    known = known | shown
+    for number, line in outside_code(text):
         if line.startswith("    "):
             continue
         for tick in ticks(line):
             path = re.fullmatch(r"(?:\.\./)*((?:crates|docs|examples|tools|peer|\.ci)/[\w./-]+)", tick)
-            if path and not any(m in tick for m in MADE) and not (page.parent / tick).exists() and not pathlib.Path(tick).exists():
+            if path and not any(m in tick for m in made) and not (page.parent / tick).exists() and not pathlib.Path(tick).exists():
                 wrong(page, number, f"no such path: {tick}")
             for name in names_in(tick):
                 if ("_" in name.strip("_") or re.search(r"[a-z][A-Z]", name)) and name not in known and name not in ELSEWHERE:
@@ -245,8 +250,23 @@ def check_program(program):
             wrong(page, 0, f"the program prints {run(program, made)!r} of {shown}")
 
 
+def guide_files(text):
+    """The files that a page shows whole, by their names."""
+    return dict(re.findall(r"^File `([^`]+)`:\n\n```\w*\n(.*?)^```", text, re.M | re.S))
+
+
+def write_guide(folder):
+    for name, body in guide_files(pathlib.Path("docs/WRITE-A-RULE.md").read_text("utf-8")).items():
+        path = pathlib.Path(folder, name)
+        path.parent.mkdir(parents=True, exist_ok=True)
+        path.write_text(body, "utf-8")
+
+
 def main():
     args = sys.argv[1:]
+    if "--guide" in args:
+        write_guide(args[args.index("--guide") + 1])
+        return 0
     write = "--write" in args
     if write:
         subprocess.run([sys.executable, "tools/reference.py"], check=True)
