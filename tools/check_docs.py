@@ -96,7 +96,9 @@ def ticks(text):
 
 
 def names_in(tick):
-    """The names of the code in something between backticks: of `Shed::open`, both."""
+    """The names of the code in something between backticks: of `Shed::open`, both. None of a command, a message or hexadecimal."""
+    if re.match(r"(rt|git|bash|python3|cargo|Error:) ?", tick) and " " in tick or re.fullmatch(r"[0-9A-F ]+", tick):
+        return []
     return re.findall(r"[^\W\d]\w*", tick) if re.fullmatch(r"[\w:<>, &'\[\]()]+", tick) else []
 
 
@@ -118,10 +120,13 @@ def check_names(page, known):
             if path and not any(m in tick for m in made) and not (page.parent / tick).exists() and not pathlib.Path(tick).exists():
                 wrong(page, number, f"no such path: {tick}")
             for name in names_in(tick):
-                if ("_" in name.strip("_") or re.search(r"[a-z][A-Z]", name)) and name not in known and name not in ELSEWHERE:
+                if len(name) > 1 and name not in known and name not in ELSEWHERE:
                     wrong(page, number, f"no such name in the code: {name}")
-        cells = line.split("|") if line.startswith("|") else [text for text, target in []]
-        for cell in cells:
+        for cell in line.split("|") if line.startswith("|") else []:
+            for crate, labels in re.findall(r"`(\w+)`: ((?:`\w+`(?:, )?)+)", cell):
+                for label in ticks(labels):
+                    if not pathlib.Path("crates", crate, "must-fail", f"{label}.edit").exists():
+                        wrong(page, number, f"no such edit: {crate}/must-fail/{label}.edit")
             files = [f for f in (source(page, target) for _, target in links(cell)) if f]
             if files:
                 there = set().union(*(words_of(f) for f in files)) | {f.stem for f in files}
