@@ -22,7 +22,7 @@ stepped R w given call o same e c f =
     }
 
 module _ {S L : Type 0} (R : Behaviour S L) (w v : World S L) (calls : List Step) (i : ℕ) (d : Step) (h : i < length calls)
-    (x : Option Refusal) (came : ComesTo x v (step R w (get_or calls i d))) (xs ys : List (Option Refusal)) (wrote : ys ≡ set xs i x) where
+    (o x : Option Refusal) (came : ComesTo o v (step R w (get_or calls i d))) (same : x ≡ o) (xs ys : List (Option Refusal)) (wrote : ys ≡ set xs i x) where
   pub after_more : (all : World S L) → after R w (drop i calls) ≡ all → after R v (drop (i + 1) calls) ≡ all
   unfolding after
   after_more all e =
@@ -36,7 +36,7 @@ module _ {S L : Type 0} (R : Behaviour S L) (w v : World S L) (calls : List Step
       let rest = λ (u : World S L). refusals R u (drop (i + 1) calls) in
       let more : refusals R w (drop i calls) ≡ s.0 ∷ rest s.1 = at_drop_more (refusals R w) calls i d h in
       let first : put xs i (refusals R w (drop i calls)) ≡ put (set xs i s.0) (suc i) (rest s.1) = ap (put xs i) more in
-      let now : ys ≡ set xs i s.0 = wrote ∙ ap (set xs i) came.answers in
+      let now : ys ≡ set xs i s.0 = wrote ∙ ap (set xs i) (same ∙ came.answers) in
       ap (λ j. put ys j (rest v)) (add-one i) ∙ (ap (λ y. put y (suc i) (rest v)) now ∙ ap (λ u. put (set xs i s.0) (suc i) (rest u)) came.leaves ∙ sym first ∙ e)
 
 -- a list is done

@@ -1,6 +1,6 @@
 // The shed's calls, one by one and as lists of steps.
+use conduct::conduct;
 use conduct::steps::take_steps;
-use conduct::{Halt, conduct};
 use last::Last;
 use protocol::refusal::Refusal;
 use protocol::types::{Fate, Sight, Stand, Step};
@@ -26,7 +26,6 @@ fn answers(rt: HostRuntime) {
         book: &mut book,
     };
     let mut shed = Shed::new();
-    assert_eq!(rt; shed.openable(&Third, &buffers, &[9, 7]), Ok(()));
     assert_eq!(rt; shed.open(&Third, &mut buffers, &[9, 7]), Ok(2));
     assert_eq!(rt; shed.send(&Third, &mut buffers, 0), Ok(2));
     assert_eq!(rt; shed.send(&Third, &mut buffers, 1), Ok(2));
@@ -77,12 +76,9 @@ const ROUND: [Step; 6] = [
     Step::Turn(1),
 ];
 
-// What was not conducted, as a test's failure.
-fn halted(halt: Halt<Refusal>) -> Fail {
-    match halt {
-        Halt::Refused(_) => Fail::new("refused"),
-        Halt::NoMemory => Fail::new("no memory"),
-    }
+// An opening that was refused, as a test's failure.
+fn refused(_refusal: Refusal) -> Fail {
+    Fail::new("refused")
 }
 
 // A phase of four rounds settles the coordinator's value.
@@ -106,11 +102,12 @@ fn phase_in_steps(rt: HostRuntime) -> Result<(), Fail> {
         pool: &mut pool,
         book: &mut book,
     };
-    let done = conduct(rt.alloc(), &Last, &mut buffers, &[9, 7], &ROUND);
-    let (mut shed, told) = done.map_err(halted)?;
-    assert_eq!(rt; told.as_slice(), [None; 6].as_slice());
+    let mut outcomes = [Some(Refusal::Shut); 6];
+    let done = conduct(&Last, &mut buffers, &[9, 7], &ROUND, &mut outcomes);
+    let mut shed = done.map_err(refused)?;
+    assert_eq!(rt; outcomes, [None; 6]);
     for _ in 0..3 {
-        let mut outcomes = [Some(Refusal::Shut); 6];
+        outcomes = [Some(Refusal::Shut); 6];
         take_steps(&mut shed, &Last, &mut buffers, &ROUND, &mut outcomes);
         assert_eq!(rt; outcomes, [None; 6]);
     }

@@ -88,6 +88,17 @@ module _ {A : Type 0} where
   put_past [] xs c h = refl
   put_past (y ∷ ys) xs c h = ap (λ z. put z (suc c) ys) (set_past xs c y h) ∙ put_past ys xs (suc c) (omega arith)
 
+  put_cons : (ys xs : List A) (x : A) (c : ℕ) → put (x ∷ xs) (suc c) ys ≡ x ∷ put xs c ys
+  put_cons [] xs x c = refl
+  put_cons (y ∷ ys) xs x c = put_cons ys (set xs c y) x (suc c)
+
+  -- a list is put over another of its length
+  pub put_whole : (xs ys : List A) → length xs ≡ length ys → put xs 0 ys ≡ ys
+  put_whole [] [] e = refl
+  put_whole [] (y ∷ ys) e = absurd (omega arith)
+  put_whole (x ∷ xs) [] e = absurd (omega arith)
+  put_whole (x ∷ xs) (y ∷ ys) e = put_cons ys xs y 0 ∙ ap (λ zs. y ∷ zs) (put_whole xs ys (omega arith))
+
   -- a table is put one cell after another; what would lie past the end is lost
   pub put_table_more : (i : ℕ) (f : ℕ → A) (xs ys : List A) (v : A) → ys ≡ put xs 0 (tabulate i f) → v ≡ f i → set ys i v ≡ put xs 0 (tabulate (i + 1) f)
   put_table_more i f xs ys v e here =

@@ -32,9 +32,9 @@ module _ {A W : Type 0} (w v : W) (a : A) where
   was_accepted None x e = (refl, cc, refl)
   was_accepted (Some f) x e = absurd (let z : ◌≡◌ {A = ℕ} 0 1 = cc in omega arith)
 
-  pub was_refused : (o : Option Refusal) (f : Refusal) → Err f ≡ (attempt w o a v).0 → o ≡ Some f
+  pub was_refused : (o : Option Refusal) (f : Refusal) → Err f ≡ (attempt w o a v).0 → (o ≡ Some f) × ((attempt w o a v).1 ≡ w)
   was_refused None f e = absurd (let z : ◌≡◌ {A = ℕ} 0 1 = cc in omega arith)
-  was_refused (Some g) f e = let same : g ≡ f = cc in rw same
+  was_refused (Some g) f e = let same : g ≡ f = cc in (rw same, refl)
 
 -- ---- a delivery
 module _ {S L : Type 0} (R : Behaviour S L) (w : World S L) (k : ℕ) (P : Result Fate Refusal × World S L → Type 0) (refused : (r : Refusal) → P (Err r, w)) where

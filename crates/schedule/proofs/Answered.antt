@@ -9,8 +9,8 @@ use Rattle.lists.proofs.Options.{none_some}
 use Rattle.protocol.specs.declared.types.Step.{Step}
 use Rattle.protocol.specs.Calls.{open_refusal}
 use Rattle.protocol.specs.declared.refusal.Refusal.{Refusal}
-use Rattle.conduct.specs.declared.Halt.{Halt}
-use Rattle.conduct.specs.declared.Halt.TheVariants.{Refused, NoMemory}
+use Rattle.schedule.specs.declared.types.Halt.{Halt}
+use Rattle.schedule.specs.declared.types.Halt.TheVariants.{Refused, NoMemory}
 use Rattle.schedule.specs.declared.types.Fault.{Fault}
 use Rattle.schedule.specs.declared.types.RuleName.{RuleName}
 use Rattle.schedule.specs.declared.types.RuleName.TheVariants.{Third, Last}

@@ -1,21 +1,21 @@
 -- A run that was carried out, and the listing that is made of it.
-use Rattle.std.proofs.Common.{◌≡◌, ℕ, zero, suc, ◌+◌, ◌-◌, ◌<◌, ◌≤◌, List, map, length, take, replicate, Some, None, Err, Option, sym, ap, ◌∙◌, arith}
+use Rattle.std.proofs.Common.{◌≡◌, ℕ, zero, suc, ◌+◌, ◌-◌, ◌<◌, ◌≤◌, List, [], ◌∷◌, map, length, take, replicate, Some, None, Err, Option, sym, refl, ap, ◌∙◌, arith}
 use Rattle.std.proofs.lemmas.List.{length-append, length-map}
 use Rattle.lists.specs.Lists.{tabulate}
 use Rattle.rules.specs.Rule.{Behaviour, Interface}
 use Rattle.lists.proofs.Options.{none_some}
-use Rattle.lists.proofs.Tables.{length_tabulate}
+use Rattle.lists.proofs.Tables.{length_tabulate, put_whole}
 use Rattle.protocol.specs.declared.refusal.Refusal.{Refusal}
 use Rattle.protocol.specs.declared.types.Sight.{Sight}
 use Rattle.protocol.specs.declared.types.Step.{Step}
 use Rattle.protocol.specs.World.{World}
-use Rattle.protocol.specs.Calls.{look_refusal, refusals}
+use Rattle.protocol.specs.Calls.{look_refusal, step, refusals}
 use Rattle.protocol.specs.Tally.{Triple, start, tally}
 use Rattle.protocol.specs.Guarantee.{Guarantee, entry}
 use Rattle.shed_core.specs.declared.shed.Shed.{Shed}
 use Rattle.shed_core.specs.declared.buffers.Buffers.{Buffers}
-use Rattle.conduct.specs.declared.Halt.{Halt}
-use Rattle.conduct.specs.declared.Halt.TheVariants.{Refused, NoMemory}
+use Rattle.schedule.specs.declared.types.Halt.{Halt}
+use Rattle.schedule.specs.declared.types.Halt.TheVariants.{Refused, NoMemory}
 use Rattle.shed_core.specs.Of.{world_of}
 use Rattle.conduct.specs.Conduct.{CarriedOut}
 use Rattle.schedule.specs.declared.printer.RefusedStep.{RefusedStep}
@@ -23,6 +23,12 @@ use Rattle.schedule.specs.Printing.{listing_text}
 use Rattle.schedule.specs.Program.{refused_from, sight, sights, begun, over, run_listing, hull_at, ListsOneHull}
 use Rattle.schedule.specs.Running.{Seen, Listed, Runs}
 use Rattle.schedule.proofs.Sizes.{looks, accepted, book_length}
+
+-- each call of a list has its place in the list of refusals
+length_refusals : {S L : Type 0} (R : Behaviour S L) (w : World S L) (steps : List Step) → length (refusals R w steps) ≡ length steps
+unfolding refusals
+length_refusals R w [] = refl
+length_refusals R w (c ∷ cs) = ap suc (length_refusals R (step R w c).1 cs)
 
 -- who stands in a table stands at a place of it
 seen_at : (n : ℕ) (f : ℕ → Sight) (p h : ℕ) → hull_at (tabulate n f) p ≡ Some h → (p < n) × ((f p).hull ≡ Some h)
@@ -45,8 +51,8 @@ module _ {S L : Type 0} (R : Behaviour S L) (new : World S L) (values : List ℕ
         valid = λ x h e. let u = seen_at n f x h e in g.valid x h u.0 u.1;
       }
 
-  module _ (s : Shed) (told : List (Option Refusal)) (left : Buffers S L)
-      (ran : CarriedOut R values steps new s told left) where
+  module _ (s : Shed) (left : Buffers S L) (blank told : List (Option Refusal))
+      (ran : CarriedOut R values steps new blank s left told) where
     looked : (f : Refusal) → (q : ℕ) × (q < length values) × (look_refusal R (world_of s left) q ≡ Some f) → ⊥
     looked f at =
         let fine : look_refusal R (over R new values steps) at.0 ≡ None = looks R new values steps at.0 ran.opens at.1 in
@@ -76,12 +82,16 @@ module _ {S L : Type 0} (R : Behaviour S L) (new : World S L) (values : List ℕ
     pub book_few : length left.book.now ≤ 65536
     book_few = omega (arith, ap length book_is, book_length R new values steps, (accepted R new values ran.opens).book)
 
-    pub lists : (refused : List RefusedStep) (seen : List Sight) (out : List ℕ) → refused ≡ refused_from 3 told → seen ≡ sights R (world_of s left) (length values) → out ≡ listing_text refused seen (take s.entries left.book.now) → Listed R new values steps out
+    -- where there is a cell for each step, each outcome is told
+    all_told : length blank ≡ length steps → told ≡ refusals R (begun R new values steps) steps
+    all_told many = ran.tells ∙ put_whole blank _ (many ∙ sym (length_refusals R (begun R new values steps) steps))
+
+    pub lists : length blank ≡ length steps → (refused : List RefusedStep) (seen : List Sight) (out : List ℕ) → refused ≡ refused_from 3 told → seen ≡ sights R (world_of s left) (length values) → out ≡ listing_text refused seen (take s.entries left.book.now) → Listed R new values steps out
     unfolding run_listing
-    lists refused seen out er es eo =
+    lists many refused seen out er es eo =
         let n : ℕ = length values in
         let is : out ≡ listing_text (refused_from 3 (refusals R (begun R new values steps) steps)) (sights R (over R new values steps) n) (take (over R new values steps).entries (over R new values steps).book) =
-        eo ∙ ap (λ r. listing_text r seen (take s.entries left.book.now)) (er ∙ ap (refused_from 3) ran.tells)
+        eo ∙ ap (λ r. listing_text r seen (take s.entries left.book.now)) (er ∙ ap (refused_from 3) (all_told many))
         ∙ ap (λ l. listing_text (refused_from 3 (refusals R (begun R new values steps) steps)) l (take s.entries left.book.now)) (es ∙ ap (λ w. sights R w n) ran.leaves)
         ∙ ap (λ k. listing_text (refused_from 3 (refusals R (begun R new values steps) steps)) (sights R (over R new values steps) n) (take k left.book.now)) counted
         ∙ ap (λ b. listing_text (refused_from 3 (refusals R (begun R new values steps) steps)) (sights R (over R new values steps) n) (take (over R new values steps).entries b)) book_is in

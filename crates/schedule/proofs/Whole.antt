@@ -5,8 +5,8 @@ use Rattle.std.specs.Option.{ok_or}
 use Rattle.protocol.specs.declared.types.Step.{Step}
 use Rattle.schedule.specs.declared.types.Fault.{Fault}
 use Rattle.schedule.specs.declared.types.Fault.TheVariants.{TooLong, WrongRule, WrongValues, WrongStep, Unfinished}
-use Rattle.conduct.specs.declared.Halt.{Halt}
-use Rattle.conduct.specs.declared.Halt.TheVariants.{Refused, NoMemory}
+use Rattle.schedule.specs.declared.types.Halt.{Halt}
+use Rattle.schedule.specs.declared.types.Halt.TheVariants.{Refused, NoMemory}
 use Rattle.schedule.specs.declared.types.RuleName.{RuleName}
 use Rattle.schedule.specs.Reading.{pieces, all_but_last, last_of, rule_line, values_line, step_line, Plan, first_wrong, and_step, steps_in, unless, read_lines, read_text, steps_from, at_least_one, ReadsSteps, Reads}
 use Rattle.schedule.proofs.Steps.{some_piece}

@@ -8,8 +8,8 @@ use Rattle.protocol.specs.declared.types.Step.{Step}
 use Rattle.protocol.specs.declared.types.Step.TheVariants.{Send, Deliver, Drop, Repeat, Turn, Crash}
 use Rattle.schedule.specs.declared.types.Fault.{Fault}
 use Rattle.schedule.specs.declared.types.Fault.TheVariants.{TooLong, WrongRule, WrongValues, WrongStep, Unfinished}
-use Rattle.conduct.specs.declared.Halt.{Halt}
-use Rattle.conduct.specs.declared.Halt.TheVariants.{Refused, NoMemory}
+use Rattle.schedule.specs.declared.types.Halt.{Halt}
+use Rattle.schedule.specs.declared.types.Halt.TheVariants.{Refused, NoMemory}
 use Rattle.schedule.specs.declared.types.RuleName.{RuleName}
 use Rattle.schedule.specs.declared.types.RuleName.TheVariants.{Third, Last}
 use Rattle.schedule.specs.declared.types.Schedule.{Schedule}

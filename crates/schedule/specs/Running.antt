@@ -9,8 +9,8 @@ use Rattle.protocol.specs.declared.types.Step.{Step}
 use Rattle.protocol.specs.World.{World}
 use Rattle.protocol.specs.Calls.{open_refusal, look_refusal}
 use Rattle.protocol.specs.declared.refusal.Refusal.{Refusal}
-use Rattle.conduct.specs.declared.Halt.{Halt}
-use Rattle.conduct.specs.declared.Halt.TheVariants.{Refused, NoMemory}
+use Rattle.schedule.specs.declared.types.Halt.{Halt}
+use Rattle.schedule.specs.declared.types.Halt.TheVariants.{Refused, NoMemory}
 use Rattle.schedule.specs.Program.{sights, run_listing, played, new_shed, third_state, third_letter, last_state, last_letter, ListsOneHull}
 use Rattle.schedule.specs.declared.types.RuleName.{RuleName}
 use Rattle.schedule.specs.declared.types.RuleName.TheVariants.{Third, Last}

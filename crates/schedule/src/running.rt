@@ -7,7 +7,8 @@ ghost use Rattle.schedule.specs.Running.{Seen, Runs};
 
 use crate::printer::{RefusedStep, Report};
 use crate::reader::FIRST_STEP;
-use conduct::{Halt, conduct};
+use crate::types::Halt;
+use conduct::conduct;
 use protocol::refusal::Refusal;
 use protocol::types::{Sight, Step};
 use rules::Rule;
@@ -77,8 +78,10 @@ pub(crate) fn run<R: Rule>(
         pool,
         book,
     };
-    let (shed, refusals) = conduct(heap, rule, &mut buffers, values, steps)?;
-    let refused = refused_steps(heap, refusals.as_slice())?;
+    let none: Option<Refusal> = None;
+    let mut outcomes = vec![in heap; none; steps.len()]?;
+    let shed = conduct(rule, &mut buffers, values, steps, outcomes.as_mut_slice())?;
+    let refused = refused_steps(heap, outcomes.as_slice())?;
     let stations = look_around(heap, &shed, rule, &buffers, values.len())?;
     let entries = shed.entries();
     let report = Report {

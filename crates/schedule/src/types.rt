@@ -1,10 +1,11 @@
 // A schedule, and what can be wrong with its text.
 ghost use Rattle.std.specs.Prelude.{◌≡◌};
-ghost use Rattle.conduct.specs.declared.Halt.TheVariants.{Refused};
 ghost use Rattle.schedule.specs.Faults.{fault_number, fault_line};
+ghost use Rattle.schedule.specs.declared.types.Halt.TheVariants.{Refused, NoMemory};
 
-use conduct::Halt;
+use protocol::refusal::Refusal;
 use protocol::types::Step;
+use std::alloc::{AllocError, AllocFailed};
 
 // The rules that a schedule can name.
 #[derive(Clone, Copy, Debug, PartialEq, Eq)]
@@ -63,6 +64,13 @@ impl Fault {
     }
 }
 
+// Why a call came to nothing: it was refused, for a reason of its own kind, or it was out of memory.
+#[derive(Clone, Copy, Debug, PartialEq, Eq)]
+pub enum Halt<E> {
+    Refused(E),
+    NoMemory,
+}
+
 // Why a schedule was not read: its text has a fault, or there was no memory.
 pub type ReadError = Halt<Fault>;
 
@@ -71,5 +79,29 @@ impl From<Fault> for Halt<Fault> {
 
     fn from(fault: Fault) -> Halt<Fault> {
         Halt::Refused(fault)
+    }
+}
+
+impl From<Refusal> for Halt<Refusal> {
+    ghost from_gives = { λ f r. r ≡ Refused f };
+
+    fn from(refusal: Refusal) -> Halt<Refusal> {
+        Halt::Refused(refusal)
+    }
+}
+
+impl<E> From<AllocError> for Halt<E> {
+    ghost from_gives = { λ _ r. r ≡ NoMemory };
+
+    fn from(_error: AllocError) -> Halt<E> {
+        Halt::NoMemory
+    }
+}
+
+impl<E, T: Drop> From<AllocFailed<T>> for Halt<E> {
+    ghost from_gives = { λ _ r. r ≡ NoMemory };
+
+    fn from(_error: AllocFailed<T>) -> Halt<E> {
+        Halt::NoMemory
     }
 }

@@ -30,9 +30,8 @@ impl Shed {
         }
     }
 
-    // Whether the shed opens on the buffers with the values: asked beforehand, by who wants to know before anything is
-    // written.
-    pub fn openable<R: Rule>(
+    // Whether the shed opens on the buffers with the values.
+    fn openable<R: Rule>(
         &self,
         rule: &R,
         buffers: &Buffers<'_, R::State, R::Letter>,

@@ -8,18 +8,18 @@ pub loop-i-preserved : goal.loop-i-preserved
 loop-i-preserved g c =
     let R = g.R.Rule.behaviour c.args.rule.now in
     let w = world_of c.loop-i.shed c.loop-i.buffers in
-    let last = c.take_step-outcome.new in
+    let last = c.take_step.new in
     let v = world_of last.shed last.buffers in
     let i = c.loop-i.i in
     let xs = c.loop-i.outcomes in
-    let x = c.take_step-outcome.result in
+    let x = c.err-outcome.result in
     let wrote : c.if-i-outcomes.outcomes ≡ set xs i x = elim c.if-i-outcomes.branch [
       | then-i-outcomes w ↦ w.outcomes-is
       | else-i-outcomes w ↦ w.outcomes-is ∙ written xs i x w.if-i-outcomes.false
     ] in
     record {
-      leaves = after_more R w v c.args.calls.now i _ c.loop-i-test.true x c.take_step-outcome.ensures.call xs _ wrote _ c.loop-i.invariant.leaves;
-      tells = refusals_more R w v c.args.calls.now i _ c.loop-i-test.true x c.take_step-outcome.ensures.call xs _ wrote _ c.loop-i.invariant.tells;
+      leaves = after_more R w v c.args.calls.now i _ c.loop-i-test.true _ x c.take_step.ensures.call c.err-outcome.ensures.value xs _ wrote _ c.loop-i.invariant.leaves;
+      tells = refusals_more R w v c.args.calls.now i _ c.loop-i-test.true _ x c.take_step.ensures.call c.err-outcome.ensures.value xs _ wrote _ c.loop-i.invariant.tells;
       lent = search rules;
     }
 

@@ -13,7 +13,7 @@ returns-in_err-sight g c =
     let w = world_of c.args.shed.now c.args.buffers.now in
     let p = err_from_is_err_and c.from_residual.result c.from_residual.ensures.1 in
     let station = c.loop-station.station in
-    rw (p.1, p.2) (station, c.loop-station-test.true, was_refused w w (sight R w station) (look_refusal R w station) c.in_err-sight.field-0.0 c.in_err-sight.ensures.answers)
+    rw (p.1, p.2) (station, c.loop-station-test.true, (was_refused w w (sight R w station) (look_refusal R w station) c.in_err-sight.field-0.0 c.in_err-sight.ensures.answers).0)
 
 pub loop-station-preserved : goal.loop-station-preserved
 loop-station-preserved g c =

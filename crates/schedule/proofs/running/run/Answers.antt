@@ -1,5 +1,5 @@
-use Rattle.std.proofs.Common.{length, take, vec_items, ap, ◌∙◌, arith}
-use Rattle.std.proofs.lemmas.List.{length-take}
+use Rattle.std.proofs.Common.{◌≡◌, length, take, vec_items, ap, ◌∙◌, arith}
+use Rattle.std.proofs.lemmas.List.{length-take, with_items_is}
 use Rattle.std.proofs.lemmas.Result.{err_from_is_err_and}
 use Rattle.lists.proofs.Tables.{length_tabulate}
 use Rattle.protocol.specs.World.{shut}
@@ -14,8 +14,8 @@ returns-in_err-stations g c =
     let R = g.R.Rule.behaviour c.args.rule.now in
     let a = c.args in
     let p = err_from_is_err_and c.from_residual-in_err-stations.result c.from_residual-in_err-stations.ensures.1 in
-    rw (p.1, p.2) (not_seen R (shut a.states.now a.letters.now a.pool.now a.book.now) a.values.now a.steps.now c.in_ok-shed.shed (vec_items c.in_ok-shed.refusals)
-    c.conduct.new.buffers c.in_ok-shed.ensures.conducted c.in_err-stations.field-0.0 c.in_err-stations.ensures)
+    rw (p.1, p.2) (not_seen R (shut a.states.now a.letters.now a.pool.now a.book.now) a.values.now a.steps.now c.in_ok-shed.shed c.conduct.new.buffers
+    c.as_mut_slice.result.now c.conduct.new.outcomes c.in_ok-shed.ensures.conducted c.in_err-stations.field-0.0 c.in_err-stations.ensures)
 
 pub invariant_of-report : goal.invariant_of-report
 invariant_of-report g c =
@@ -25,12 +25,12 @@ invariant_of-report g c =
     let left = c.conduct.new.buffers in
     let new = shut a.states.now a.letters.now a.pool.now a.book.now in
     let shed = c.in_ok-shed.shed in
-    let told = vec_items c.in_ok-shed.refusals in
+    let told = c.conduct.new.outcomes in
     let ran = c.in_ok-shed.ensures.conducted in
     let seen = ap length c.in_ok-stations.ensures ∙ length_tabulate (length a.values.now) (sight R (world_of shed left)) in
     record {
-      few = omega (arith, seen, few R new a.values.now a.steps.now shed told left ran (g.met.R.Rule.interface rule));
-      short = omega (arith, book_few R new a.values.now a.steps.now shed told left ran, length-take c.entries-entries.result left.book.now);
+      few = omega (arith, seen, few R new a.values.now a.steps.now shed left c.as_mut_slice.result.now told ran (g.met.R.Rule.interface rule));
+      short = omega (arith, book_few R new a.values.now a.steps.now shed left c.as_mut_slice.result.now told ran, length-take c.entries-entries.result left.book.now);
     }
 
 pub returns : goal.returns
@@ -38,10 +38,12 @@ returns g c =
     let R = g.R.Rule.behaviour c.args.rule.now in
     let a = c.args in
     let left = c.conduct.new.buffers in
+    let made = c.in_ok-outcomes.outcomes in
+    let whole : length c.conduct.new.outcomes ≡ made.len = c.conduct.auto.outcomes ∙ c.as_mut_slice.ensures.len in
     let refused = vec_items c.in_ok-refused.refused in
     let stations = vec_items c.in_ok-stations.stations in
-    lists R (shut a.states.now a.letters.now a.pool.now a.book.now) a.values.now a.steps.now c.in_ok-shed.shed (vec_items c.in_ok-shed.refusals) left
-    c.in_ok-shed.ensures.conducted refused stations _
-    (c.in_ok-refused.ensures ∙ ap (refused_from 3) c.as_slice.ensures.value)
+    lists R (shut a.states.now a.letters.now a.pool.now a.book.now) a.values.now a.steps.now c.in_ok-shed.shed left
+    c.as_mut_slice.result.now c.conduct.new.outcomes c.in_ok-shed.ensures.conducted (c.as_mut_slice.ensures.len ∙ c.in_ok-outcomes.ensures.len) refused stations _
+    (c.in_ok-refused.ensures ∙ ap (refused_from 3) (c.as_slice.ensures.value ∙ with_items_is made c.conduct.new.outcomes whole))
     c.in_ok-stations.ensures
     (c.in_ok-print.ensures ∙ ap (λ k. listing_text refused stations (take k left.book.now)) c.entries-entries.ensures)
