@@ -4,7 +4,8 @@ use Rattle.std.proofs.lemmas.List.{get_or-set_same, get_or-set_other, length-set
 use Rattle.std.proofs.lemmas.Bool.{cases_eq}
 use Rattle.rules.specs.Rule.{Behaviour}
 use Rattle.protocol.specs.World.{World, station, blank}
-use Rattle.protocol.specs.Calls.{with_pool, with_stations, with_letters, cell, state_of}
+use Rattle.protocol.specs.Calls.{with_pool, with_stations, with_letters, state_of}
+use Rattle.protocol.specs.Rows.{row_cells, row_cell}
 use Rattle.protocol.specs.Tally.{Tally, Slip, heard_in, nowhere}
 use Rattle.protocol.proofs.Invariant.{Inv, Carry, Seat, seat_kept}
 use Rattle.std.specs.List.{slice_get}
@@ -35,8 +36,8 @@ module _ {S L : Type 0} (R : Behaviour S L) (values : List ℕ) (B : ℕ) (w : W
   pub station_changed :
       (p : ℕ) (s : StationRecord) (letters : List L) (notes : ℕ → ℕ → ℕ → Bool) → p < length values →
       ((p' r q : ℕ) → (p' ≡ p → ⊥) → notes p' r q ≡ t.notes p' r q) →
-      ((p' q : ℕ) → (p' ≡ p → ⊥) → q ≤ w.n → slice_get letters (cell w.n p' q) ≡ slice_get w.letters (cell w.n p' q)) →
-      Seat R values (heard_in t.triples) t.rounds (notes p) s (state_of R w p) (λ q. slice_get letters (cell w.n p q)) (slice_get letters (cell w.n p w.n)) p →
+      ((p' i : ℕ) → (p' ≡ p → ⊥) → i < row_cells w.n → slice_get letters (row_cell w.n p' i) ≡ slice_get w.letters (row_cell w.n p' i)) →
+      Seat R values (heard_in t.triples) t.rounds (notes p) s (state_of R w p) w.n letters p →
       Inv R values B (with_letters R (with_stations R w (set w.stations p s)) letters)
       (record t { notes = notes })
   station_changed p s letters notes h en el seat = record {
@@ -50,8 +51,7 @@ module _ {S L : Type 0} (R : Behaviour S L) (values : List ℕ) (B : ℕ) (w : W
       | inl e ↦ rw (e, get_or-set_same w.stations p s blank (omega (arith, i.wide))) seat
       | inr e ↦ seat_kept R values (heard_in t.triples) (heard_in t.triples) t.rounds t.rounds (λ k q l. (l, refl))
           (t.notes p') (notes p') (station w p') (get_or (set w.stations p s) p' blank) (state_of R w p') (state_of R w p')
-          (λ q. slice_get w.letters (cell w.n p' q)) (λ q. slice_get letters (cell w.n p' q)) (slice_get w.letters (cell w.n p' w.n)) (slice_get letters (cell w.n p' w.n)) p'
-          refl (λ r q. en p' r q e) (get_or-set_other w.stations p p' s blank e) refl (λ q l. el p' q e (omega (arith, i.n_is))) (el p' w.n e (omega arith)) (i.seats p' h')
+          w.n w.letters letters p' refl (λ r q. en p' r q e) (get_or-set_other w.stations p p' s blank e) refl i.n_is (λ j l. el p' j e l) (i.seats p' h')
     ];
     entries_are = i.entries_are;
     book_is = i.book_is;

@@ -1,9 +1,9 @@
 -- An accepted delivery keeps the invariant: the frame is its slip's, and it meets the fate that the tally's note tells.
-use Rattle.std.proofs.Common.{◌≡◌, ℕ, ◌+◌, ◌*◌, ◌^◌, ◌<◌, ◌≤◌, Bool, true, false, not, ◌&&◌, ◌||◌, T, eqb, ltb, List, length, get_or, set, Some, sym, refl, ◌∙◌, subst, inl, inr, arith}
+use Rattle.std.proofs.Common.{◌≡◌, ℕ, ◌^◌, ◌<◌, ◌≤◌, Bool, true, false, not, ◌&&◌, ◌||◌, T, eqb, ltb, List, length, get_or, set, Some, sym, refl, ◌∙◌, subst, inl, inr, arith}
 use mathlib.Core.Path.{fun_ext}
 use Rattle.std.specs.Result.{result_err}
 use Rattle.std.proofs.lemmas.List.{length-set, get_or-set_same, get_or-set_other}
-use Rattle.std.proofs.lemmas.Bool.{cases_eq, ltb-false, eqb-true, eq-eqb, ne_eqb, le-ltb, false≢true, and_parts, not-true, or_left, or_right, and_from}
+use Rattle.std.proofs.lemmas.Bool.{leb-false, cases_eq, ltb-false, eqb-true, eq-eqb, ne_eqb, le-ltb, false≢true, and_parts, not-true, or_left, or_right, and_from}
 use Rattle.rules.specs.Rule.{Behaviour, Interface, Laws, lockstep}
 use Rattle.frames.specs.Frame.{Frame}
 use Rattle.protocol.specs.declared.types.StationRecord.{StationRecord}
@@ -11,15 +11,16 @@ use Rattle.protocol.specs.declared.types.Fate.{Fate}
 use Rattle.protocol.specs.declared.types.Fate.TheVariants.{Late, Again, Taken, Early}
 use Rattle.protocol.specs.declared.types.Step.TheVariants.{Deliver}
 use Rattle.protocol.specs.World.{World, hearing, holding, station}
-use Rattle.protocol.specs.Calls.{step, without_frame, cell, received, frame_at}
+use Rattle.protocol.specs.Rows.{row_cells, letter_cells, letter_cell, held_cell}
+use Rattle.protocol.specs.Calls.{step, taking_tests, without_frame, received, frame_at}
 use Rattle.protocol.specs.Tally.{Tally, Slip, heard_in, nowhere, swap_out, tally_accepted}
-use Rattle.protocol.proofs.Places.{cell_written, cell_kept}
+use Rattle.protocol.proofs.Rows.{cell_written, cell_kept}
 use Rattle.frames.proofs.RoundTrip.{reads_back}
 use Rattle.lists.proofs.Options.{none_some, same_some}
 use Rattle.rules.proofs.Runs.{run_fits}
-use Rattle.protocol.proofs.Outcomes.{deliver_by}
+use Rattle.protocol.proofs.Outcomes.{none_holds, deliver_by}
 use Rattle.protocol.proofs.Judgements.{Taking, Judged, judged_so}
-use Rattle.protocol.proofs.Invariant.{Inv, Brought, Carry, Seated, sound_below, Follows}
+use Rattle.protocol.proofs.Invariant.{Inv, Brought, Carry, Seated, Matched, matched, Follows}
 use Rattle.protocol.proofs.Pool.{frame_out}
 use Rattle.protocol.proofs.Change.{station_changed}
 
@@ -57,7 +58,7 @@ says t s p r q ep er eq h =
     rw (eq-eqb s.receiver p ep, eq-eqb s.round r er, eq-eqb s.sender q eq, le-ltb s.round (t.rounds s.receiver) h)
 
 module _ {S L : Type 0} (R : Behaviour S L) (values : List ℕ) (B : ℕ) (w : World S L) (t : Tally) (i : Inv R values B w t)
-    (letters : w.n * (w.n + 1) ≤ length w.letters) (s : Slip) (l : L) (to : s.receiver < length values)
+    (letters : letter_cells w.n ≤ length w.letters) (s : Slip) (l : L) (to : s.receiver < length values)
     (b : Brought R values (heard_in t.triples) t.rounds (Some l) s.sender s.round s.receiver)
     (few : length values ≤ 16) where
   abbrev f : Frame L
@@ -99,10 +100,10 @@ module _ {S L : Type 0} (R : Behaviour S L) (values : List ℕ) (B : ℕ) (w : W
       let n_is : w.n ≡ length values = i.n_is in
       let x : ℕ = s.sender in
       let now : s.round ≡ t.rounds s.receiver = h ∙ at.round in
-      let hx : x ≤ w.n = omega (arith, b.sender) in
+      let hx : x < row_cells w.n = omega (arith, b.sender) in
       let inside : x < length old.heard = omega (arith, b.sender, a.places, few) in
       station_changed R values B w t i s.receiver (hearing old x)
-      (set w.letters (cell w.n s.receiver x) l) (noting t s) to notes_apart (λ p q e hq. cell_kept w.letters w.n s.receiver x l hx p q hq (λ z _. e z)) (record {
+      (set w.letters (letter_cell w.n s.receiver x) l) (noting t s) to notes_apart (λ p q e hq. cell_kept w.letters w.n s.receiver x l hx p q hq (λ z _. e z)) (record {
         round = at.round;
         limit = at.limit;
         state = at.state;
@@ -137,7 +138,7 @@ module _ {S L : Type 0} (R : Behaviour S L) (values : List ℕ) (B : ℕ) (w : W
       let n_is : w.n ≡ length values = i.n_is in
       let ahead : t.rounds s.receiver < s.round = omega (arith, at.round) in
       station_changed R values B w t i s.receiver (holding old (record { sender = s.sender; round = s.round }))
-      (set w.letters (cell w.n s.receiver w.n) l) (noting t s) to notes_apart (λ p q e hq. cell_kept w.letters w.n s.receiver w.n l (omega arith) p q hq (λ z _. e z)) (record {
+      (set w.letters (held_cell w.n s.receiver) l) (noting t s) to notes_apart (λ p q e hq. cell_kept w.letters w.n s.receiver w.n l (omega arith) p q hq (λ z _. e z)) (record {
         round = at.round;
         limit = at.limit;
         state = at.state;
@@ -185,10 +186,12 @@ module _ {S L : Type 0} (R : Behaviour S L) (face : Interface R) (laws : Laws R)
   pub delivered : Follows R values B (step R w (Deliver k)).0 (step R w (Deliver k)).1 t (tally_accepted R values t (Deliver k))
   unfolding step tally_accepted
   delivered = deliver_by R w k (λ o. Follows R values B (result_err o.0) o.1 t (noted t₁ s)) (λ r. i) (λ fine f at x judgement.
-      let b = sound_below R w w.frames k _ _ fine in
-      let c = carry b.1 in
+      let b = none_holds (taking_tests R w k) fine in
+      let m : Matched R w = matched R w (b 1) in
+      let h : k < w.frames = leb-false w.frames k (b 2) in
+      let c = carry h in
       let v : World S L = without_frame R w k in
-      let j : Inv R values B v t₁ = frame_out R values B w t i k b.1 b.0 in
-      let is : f ≡ (s.sender, s.receiver, s.round, c.letter) = same_some (sym at ∙ frame_is b.1) in
+      let j : Inv R values B v t₁ = frame_out R values B w t i k h m in
+      let is : f ≡ (s.sender, s.receiver, s.round, c.letter) = same_some (sym at ∙ frame_is h) in
       subst (λ f. Inv R values B (received R v f x) (noted t₁ s)) (sym is)
-      (met R values B v t₁ j b.0.letters s c.letter c.to c.brought few x (judged_so (station w s.receiver) s.sender s.round x (rw is at judgement))))
+      (met R values B v t₁ j m.letters s c.letter c.to c.brought few x (judged_so (station w s.receiver) s.sender s.round x (rw is at judgement))))

@@ -3,7 +3,7 @@ use Rattle.std.proofs.Common.{◌≡◌, ℕ, eqb, Some, None, Option, sym, refl
 use Rattle.std.proofs.lemmas.Bool.{eqb-true, eq-eqb}
 use Rattle.lists.proofs.Options.{none_some, only, same_some}
 use Rattle.protocol.specs.declared.types.Held.{Held}
-use Rattle.protocol.specs.Calls.{due}
+use Rattle.protocol.specs.Records.{due}
 
 pub due_some : (o : Option Held) (k q : ℕ) → due o k ≡ Some q → (x : Held) × (o ≡ Some x) × (x.sender ≡ q) × (x.round ≡ k)
 due_some None k q e = none_some e

@@ -1,22 +1,23 @@
 -- How a world and a tally stand to one another after the same calls, and what stays of that as rounds go by.
-use Rattle.std.proofs.Common.{◌≡◌, ℕ, ◌+◌, ◌-◌, ◌*◌, ◌<◌, ◌≤◌, Bool, true, false, cond, ◌&&◌, ◌||◌, eqb, leb, List, [], ◌∷◌, ◌++◌, map, length, get_or, replicate, Some, None, Option, sym, ◌∙◌, arith}
+use Rattle.std.proofs.Common.{◌≡◌, ℕ, ◌-◌, ◌<◌, ◌≤◌, Bool, true, false, ◌&&◌, ◌||◌, eqb, List, [], ◌∷◌, ◌++◌, map, length, get_or, replicate, Some, None, Option, sym, ◌∙◌, arith}
 use Rattle.std.specs.Result.{result_err}
 use Rattle.std.specs.List.{slice_get}
-use Rattle.std.proofs.lemmas.Bool.{or_parts, ltb-false, leb-false, eqb-true, not-false}
+use Rattle.std.proofs.lemmas.Bool.{or_parts, ltb-false, eqb-true, not-false}
 use Rattle.rules.specs.Rule.{Behaviour, Heard, lockstep}
 use Rattle.frames.specs.Frame.{pack_frame}
 use Rattle.protocol.specs.declared.types.Held.{Held}
 use Rattle.protocol.specs.declared.types.StationRecord.{StationRecord}
 use Rattle.protocol.specs.declared.refusal.Refusal.{Refusal}
-use Rattle.protocol.specs.declared.refusal.Refusal.TheVariants.{Shut, BufferMismatch}
 use Rattle.protocol.specs.World.{World, station}
-use Rattle.protocol.specs.Calls.{is_fresh, is_down, cell, state_of, mismatched}
+use Rattle.protocol.specs.Rows.{row_cells, letter_cells, row_cell, letter_cell, held_cell}
+use Rattle.protocol.specs.Records.{is_fresh, is_down}
+use Rattle.protocol.specs.Tests.{mismatched}
+use Rattle.protocol.specs.Calls.{state_of}
 use Rattle.protocol.specs.Refusals.{attempt}
 use Rattle.protocol.proofs.Outcomes.{attempt_by}
 use Rattle.protocol.specs.Tally.{Tally, Slip, Triple, heard_in, nowhere}
 use Rattle.protocol.specs.Guarantee.{entry}
 use Rattle.rules.proofs.Runs.{Known}
-use Rattle.lists.proofs.Options.{passed}
 use Rattle.protocol.proofs.Words.{Whole}
 
 -- the note that a held letter is
@@ -43,25 +44,25 @@ module _ {S L : Type 0} (R : Behaviour S L) (values : List ℕ) where
     pub to : s.receiver < length values
     pub brought : Brought H rounds (Some letter) s.sender s.round s.receiver
 
-  -- a station that is not down: its notes, the letters in its row, and its held letter in the row's last cell
-  pub record Live (H : Heard) (rounds : ℕ → ℕ) (notes : ℕ → ℕ → Bool) (s : StationRecord) (row : ℕ → Option L) (last : Option L) (p : ℕ) : Type 0 where
+  -- a station that is not down: its notes, the letters in its row, and its held letter
+  pub record Live (H : Heard) (rounds : ℕ → ℕ) (notes : ℕ → ℕ → Bool) (s : StationRecord) (n : ℕ) (letters : List L) (p : ℕ) : Type 0 where
     pub places : length s.heard ≡ 16
     pub noted : (r q : ℕ) → rounds p ≤ r → notes r q ≡ ((eqb r (rounds p) && get_or s.heard q false) || held s.hold r q)
-    pub marked : (q : ℕ) → get_or s.heard q false ≡ true → Brought H rounds (row q) q (rounds p) p
-    pub holding : (h : Held) → s.hold ≡ Some h → Brought H rounds last h.sender h.round p
+    pub marked : (q : ℕ) → get_or s.heard q false ≡ true → Brought H rounds (slice_get letters (letter_cell n p q)) q (rounds p) p
+    pub holding : (h : Held) → s.hold ≡ Some h → Brought H rounds (slice_get letters (held_cell n p)) h.sender h.round p
     pub ahead : (h : Held) → s.hold ≡ Some h → rounds p ≤ h.round
     pub later : is_fresh s.stand ≡ false → (h : Held) → s.hold ≡ Some h → rounds p < h.round
     pub silent : is_fresh s.stand ≡ true → (q : ℕ) → get_or s.heard q false ≡ false
 
-  pub record Seat (H : Heard) (rounds : ℕ → ℕ) (notes : ℕ → ℕ → Bool) (s : StationRecord) (x : S) (row : ℕ → Option L) (last : Option L) (p : ℕ) : Type 0 where
+  pub record Seat (H : Heard) (rounds : ℕ → ℕ) (notes : ℕ → ℕ → Bool) (s : StationRecord) (x : S) (n : ℕ) (letters : List L) (p : ℕ) : Type 0 where
     pub round : s.round ≡ rounds p
     pub limit : rounds p ≤ 4095
     pub state : x ≡ lockstep R values H (rounds p) p
-    pub live : is_down s.stand ≡ false → Live H rounds notes s row last p
+    pub live : is_down s.stand ≡ false → Live H rounds notes s n letters p
 
   abbrev pub Seated : World S L → Tally → ℕ → Type 0
   Seated w t p =
-      Seat (heard_in t.triples) t.rounds (t.notes p) (station w p) (state_of R w p) (λ q. slice_get w.letters (cell w.n p q)) (slice_get w.letters (cell w.n p w.n)) p
+      Seat (heard_in t.triples) t.rounds (t.notes p) (station w p) (state_of R w p) w.n w.letters p
 
   -- B is the length of the book
   pub record Inv (B : ℕ) (w : World S L) (t : Tally) : Type 0 where
@@ -100,18 +101,19 @@ module _ {S L : Type 0} (R : Behaviour S L) (values : List ℕ) where
 
     -- a station at which nothing changes
     pub seat_kept :
-        (notes notes' : ℕ → ℕ → Bool) (s s' : StationRecord) (x x' : S) (row row' : ℕ → Option L) (last last' : Option L) (p : ℕ) →
-        rounds' p ≡ rounds p → ((r q : ℕ) → notes' r q ≡ notes r q) → s' ≡ s → x' ≡ x → ((q : ℕ) → q < length values → row' q ≡ row q) → last' ≡ last →
-        Seat H rounds notes s x row last p → Seat H' rounds' notes' s' x' row' last' p
-    seat_kept notes notes' s s' x x' row row' last last' p same noted es ex er el seat = rw (es, ex, el) (record {
+        (notes notes' : ℕ → ℕ → Bool) (s s' : StationRecord) (x x' : S) (n : ℕ) (letters letters' : List L) (p : ℕ) →
+        rounds' p ≡ rounds p → ((r q : ℕ) → notes' r q ≡ notes r q) → s' ≡ s → x' ≡ x → n ≡ length values →
+        ((i : ℕ) → i < row_cells n → slice_get letters' (row_cell n p i) ≡ slice_get letters (row_cell n p i)) →
+        Seat H rounds notes s x n letters p → Seat H' rounds' notes' s' x' n letters' p
+    seat_kept notes notes' s s' x x' n letters letters' p same noted es ex n_is el seat = rw (es, ex) (record {
       round = rw same seat.round;
       limit = rw same seat.limit;
       state = rw same (seat.state ∙ sym (g (rounds p) p (omega arith)).1);
-      live = λ up. let a : Live H rounds notes s row last p = seat.live up in record {
+      live = λ up. let a : Live H rounds notes s n letters p = seat.live up in record {
         places = a.places;
         noted = λ r q h. noted r q ∙ rw same (a.noted r q (rw same at h));
-        marked = λ q m. let b : Brought H rounds (row q) q (rounds p) p = a.marked q m in rw (er q b.sender, same) (brought_kept (row q) q (rounds p) p b);
-        holding = λ h e. brought_kept last h.sender h.round p (a.holding h e);
+        marked = λ q m. let b = a.marked q m in rw (el q (omega (arith, b.sender, n_is)), same) (brought_kept (slice_get letters (letter_cell n p q)) q (rounds p) p b);
+        holding = λ h e. rw (el n (omega arith)) (brought_kept (slice_get letters (held_cell n p)) h.sender h.round p (a.holding h e));
         ahead = λ h e. rw same (a.ahead h e);
         later = λ f h e. rw same (a.later f h e);
         silent = a.silent;
@@ -123,36 +125,21 @@ module _ {S L : Type 0} (R : Behaviour S L) where
   -- the buffers have the lengths that they had at the opening
   pub record Matched (w : World S L) : Type 0 where
     pub states : w.n ≤ length w.states
-    pub letters : w.n * (w.n + 1) ≤ length w.letters
+    pub letters : letter_cells w.n ≤ length w.letters
     pub pool : length w.pool ≡ w.pool_len
     pub book : length w.book ≡ w.book_len
 
-  pub matched : (w : World S L) → mismatched R w ≡ false → Matched w
+  pub matched : (w : World S L) → mismatched w ≡ false → Matched w
   matched w e =
       let a = or_parts _ _ e in
       let b = or_parts _ _ a.0 in
       let c = or_parts _ _ b.0 in
       record {
         states = ltb-false (length w.states) w.n c.0;
-        letters = ltb-false (length w.letters) (w.n * (w.n + 1)) c.1;
+        letters = ltb-false (length w.letters) (letter_cells w.n) c.1;
         pool = eqb-true (length w.pool) w.pool_len (not-false _ b.1);
         book = eqb-true (length w.book) w.book_len (not-false _ a.1);
       }
-
-  -- the two tests that every call but open begins with
-  pub sound : (w : World S L) (o : Option Refusal) → cond (eqb w.n 0) (Some Shut) (cond (mismatched R w) (Some BufferMismatch) o) ≡ None → Matched w × (o ≡ None)
-  sound w o e =
-      let a = passed (eqb w.n 0) Shut (cond (mismatched R w) (Some BufferMismatch) o) e in
-      let b = passed (mismatched R w) BufferMismatch o a.1 in
-      (matched w b.0, b.1)
-
-  -- and the third test of most of them: x is below m, a station below the number of stations or a place below that of frames
-  pub sound_below : (w : World S L) (m x : ℕ) (f : Refusal) (o : Option Refusal) → cond (eqb w.n 0) (Some Shut) (cond (mismatched R w) (Some BufferMismatch) (cond (leb m x) (Some f) o)) ≡ None →
-      Matched w × (x < m) × (o ≡ None)
-  sound_below w m x f o e =
-      let b = sound w (cond (leb m x) (Some f) o) e in
-      let c = passed (leb m x) f o b.1 in
-      (b.0, leb-false m x c.0, c.1)
 
   -- what a call comes to: the tally moves on if it is accepted, and stays if it is refused
   abbrev pub Follows : List ℕ → ℕ → Option Refusal → World S L → Tally → Tally → Type 0

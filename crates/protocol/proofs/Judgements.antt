@@ -6,7 +6,8 @@ use Rattle.protocol.specs.declared.types.StationRecord.{StationRecord}
 use Rattle.protocol.specs.declared.types.Fate.{Fate}
 use Rattle.protocol.specs.declared.types.Fate.TheVariants.{Late, Again, Taken, Early}
 use Rattle.protocol.specs.declared.refusal.Refusal.{Refusal}
-use Rattle.protocol.specs.Calls.{judged, is_fresh, is_down, holds}
+use Rattle.protocol.specs.Records.{is_fresh, is_down, holds}
+use Rattle.protocol.specs.Calls.{judged}
 
 no_hold : (o : Option Held) → holds o ≡ false → o ≡ None
 no_hold None e = refl

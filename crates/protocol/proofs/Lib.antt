@@ -1,4 +1,5 @@
 pub mod Places
+pub mod Rows
 pub mod Outcomes
 pub mod Judgements
 pub mod Words

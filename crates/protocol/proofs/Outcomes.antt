@@ -1,10 +1,10 @@
 -- The ways in which a call can end: refused by the first of its tests that holds, or accepted.
-use Rattle.std.proofs.Common.{◌≡◌, ℕ, Bool, true, false, cond, List, [], ◌∷◌, ◌++◌, Some, None, Ok, Err, Option, Result, refl, arith}
+use Rattle.std.proofs.Common.{◌≡◌, ℕ, zero, suc, Bool, true, false, cond, List, [], ◌∷◌, ◌++◌, get_or, Some, None, Ok, Err, Option, Result, refl, arith}
 use Rattle.rules.specs.Rule.{Behaviour}
-use Rattle.lists.proofs.Options.{none_some}
+use Rattle.lists.proofs.Options.{none_some, passed}
 use Rattle.frames.specs.Frame.{Frame}
 use Rattle.protocol.specs.declared.refusal.Refusal.{Refusal}
-use Rattle.protocol.specs.declared.refusal.Refusal.TheVariants.{Unreadable}
+use Rattle.protocol.specs.declared.refusal.Refusal.TheVariants.{Shut, Unreadable}
 use Rattle.protocol.specs.declared.types.Fate.{Fate}
 use Rattle.protocol.specs.Refusals.{first_refusal, attempt}
 use Rattle.protocol.specs.World.{World, station}
@@ -19,6 +19,12 @@ holds_first false x f o p h e = h e
 pub refused_first : (ts us : List (Bool × Refusal)) (f : Refusal) → first_refusal ts ≡ Some f → first_refusal (ts ++ us) ≡ Some f
 refused_first [] us f e = none_some e
 refused_first (t ∷ ts) us f e = holds_first t.0 t.1 f (first_refusal ts) (first_refusal (ts ++ us)) (refused_first ts us f) e
+
+-- where nothing is refused, the test at each place fails
+pub none_holds : (ts : List (Bool × Refusal)) → first_refusal ts ≡ None → (i : ℕ) → (get_or ts i (false, Shut)).0 ≡ false
+none_holds [] e i = refl
+none_holds (t ∷ ts) e zero = (passed t.0 t.1 (first_refusal ts) e).0
+none_holds (t ∷ ts) e (suc i) = none_holds ts (passed t.0 t.1 (first_refusal ts) e).1 i
 
 -- ---- an attempt
 module _ {A W : Type 0} (w v : W) (a : A) where

@@ -1,13 +1,11 @@
--- Lists by places, the element that is taken out of two lists alike, and the cells of the letter rows.
-use Rattle.std.proofs.Common.{◌≡◌, ℕ, zero, suc, ◌+◌, ◌-◌, ◌*◌, ◌/◌, ◌%◌, ◌<◌, ◌≤◌, List, [], ◌∷◌, length, get_or, set, Some, sym, refl, ap, ◌∙◌, inl, inr, arith}
+-- Lists by places, and the element that is taken out of two lists alike.
+use Rattle.std.proofs.Common.{◌≡◌, ℕ, zero, suc, ◌-◌, ◌<◌, ◌≤◌, List, [], ◌∷◌, length, get_or, set, Some, refl, ap, ◌∙◌, inl, inr, arith}
 use Rattle.std.specs.List.{slice_get}
 use Rattle.std.proofs.lemmas.List.{length-set, get_or-set_same, get_or-set_other, get_or-take, length-take-le}
 use Rattle.std.proofs.lemmas.Option.{slice_get-get_or}
 use Rattle.std.proofs.lemmas.Bool.{cases_eq}
 use Rattle.frames.specs.Pool.{take_out}
 use Rattle.protocol.specs.Tally.{swap_out}
-use Rattle.protocol.specs.Calls.{cell}
-use Rattle.std.proofs.lemmas.Nat.{div-mul-add, mod-mul-add, mul-add-lt}
 
 module _ {A : Type 0} where
   pub nth_set_same : (xs : List A) (i : ℕ) (x : A) → i < length xs → slice_get (set xs i x) i ≡ Some x
@@ -19,6 +17,11 @@ module _ {A : Type 0} where
   nth_set_other (y ∷ xs) zero (suc j) x h = refl
   nth_set_other (y ∷ xs) (suc i) zero x h = refl
   nth_set_other (y ∷ xs) (suc i) (suc j) x h = nth_set_other xs i j x (λ e. h (ap suc e))
+
+  pub nth_some : (xs : List A) (i : ℕ) → i < length xs → (x : A) × (slice_get xs i ≡ Some x)
+  nth_some [] i h = absurd (omega arith)
+  nth_some (x ∷ xs) zero h = (x, refl)
+  nth_some (x ∷ xs) (suc i) h = nth_some xs i (omega arith)
 
 -- where the element at place i comes from, after the one at k is taken out of two lists alike
 module _ {A B : Type 0} (a : A) (b : B) (xs : List A) (ys : List B) (c k : ℕ) (ex : length xs ≡ c) (ey : c ≤ length ys) (h : k < c) where
@@ -47,26 +50,3 @@ module _ {A B : Type 0} (a : A) (b : B) (xs : List A) (ys : List B) (c k : ℕ) 
       right = get_or-set_other (set ys k (get_or ys (c - 1) b)) (c - 1) i b b (omega arith) ∙ get_or-set_other ys k i (get_or ys (c - 1) b) b e;
     }
   ]
-
--- ---- the cells of a row
-pub cell_apart : (n p q p' q' : ℕ) → q ≤ n → q' ≤ n → cell n p q ≡ cell n p' q' → (p ≡ p') × (q ≡ q')
-cell_apart n p q p' q' h h' e = (
-  sym (div-mul-add p (n + 1) q (omega arith)) ∙ ap (λ x. x / (n + 1)) e ∙ div-mul-add p' (n + 1) q' (omega arith),
-  sym (mod-mul-add p (n + 1) q (omega arith)) ∙ ap (λ x. x % (n + 1)) e ∙ mod-mul-add p' (n + 1) q' (omega arith),
-)
-
-pub cell_within : (n p q : ℕ) → p < n → q ≤ n → cell n p q < n * (n + 1)
-cell_within n p q h h' = omega (arith, mul-add-lt p (n + 1) q n h (omega arith))
-
-pub nth_some : {A : Type 0} (xs : List A) (i : ℕ) → i < length xs → (x : A) × (slice_get xs i ≡ Some x)
-nth_some [] i h = absurd (omega arith)
-nth_some (x ∷ xs) zero h = (x, refl)
-nth_some (x ∷ xs) (suc i) h = nth_some xs i (omega arith)
-
--- a letter written to a cell of row p
-module _ {A : Type 0} (xs : List A) (n p q : ℕ) (x : A) (hq : q ≤ n) where
-  pub cell_written : n * (n + 1) ≤ length xs → p < n → slice_get (set xs (cell n p q) x) (cell n p q) ≡ Some x
-  cell_written l hp = nth_set_same xs (cell n p q) x (omega (arith, cell_within n p q hp hq))
-
-  pub cell_kept : (p' q' : ℕ) → q' ≤ n → (p' ≡ p → q' ≡ q → ⊥) → slice_get (set xs (cell n p q) x) (cell n p' q') ≡ slice_get xs (cell n p' q')
-  cell_kept p' q' h e = nth_set_other xs (cell n p q) (cell n p' q') x (λ z. let a = cell_apart n p' q' p q h hq z in e a.0 a.1)

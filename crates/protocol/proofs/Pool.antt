@@ -1,17 +1,17 @@
 -- An accepted drop or repeat keeps the invariant.
 use Rattle.std.proofs.Common.{◌≡◌, ℕ, ◌+◌, ◌-◌, ◌<◌, ◌≤◌, false, eqb, List, [], ◌∷◌, ◌++◌, length, get_or, set, sym, inl, inr, arith}
 use Rattle.std.proofs.lemmas.List.{length_push, get_or_push, get_or_append_left, get_or-set_same, get_or-set_other}
-use Rattle.std.proofs.lemmas.Bool.{cases_eq, eqb-false}
+use Rattle.std.proofs.lemmas.Bool.{cases_eq, leb-false, eqb-false}
 use Rattle.rules.specs.Rule.{Behaviour}
 use Rattle.frames.specs.Pool.{take_out}
 use Rattle.protocol.specs.declared.types.Step.TheVariants.{Drop, Repeat}
 use Rattle.protocol.specs.World.{World}
-use Rattle.protocol.specs.Calls.{step, with_pool, without_frame}
+use Rattle.protocol.specs.Calls.{step, taking_tests, repeat_tests, with_pool, without_frame}
 use Rattle.protocol.specs.Tally.{Tally, Slip, nowhere, swap_out, tally_accepted}
 use Rattle.protocol.proofs.Places.{length_out, origin}
 use Rattle.protocol.proofs.Change.{pool_changed}
-use Rattle.lists.proofs.Options.{passed}
-use Rattle.protocol.proofs.Invariant.{Inv, Matched, sound_below, Follows, attempted}
+use Rattle.protocol.proofs.Invariant.{Inv, Matched, matched, Follows, attempted}
+use Rattle.protocol.proofs.Outcomes.{none_holds}
 
 module _ {S L : Type 0} (R : Behaviour S L) (values : List ℕ) (B : ℕ) (w : World S L) (t : Tally) (i : Inv R values B w t) where
   -- the frame at place k leaves the pool
@@ -29,8 +29,8 @@ module _ {S L : Type 0} (R : Behaviour S L) (values : List ℕ) (B : ℕ) (w : W
   pub dropped : (k : ℕ) → Follows R values B (step R w (Drop k)).0 (step R w (Drop k)).1 t (tally_accepted R values t (Drop k))
   unfolding step tally_accepted
   dropped k = attempted R values B w (without_frame R w k) _ 0 t (tally_accepted R values t (Drop k)) i (λ fine.
-      let b = sound_below R w w.frames k _ _ fine in
-      frame_out k b.1 b.0)
+      let b = none_holds (taking_tests R w k) fine in
+      frame_out k (leb-false w.frames k (b 2)) (matched R w (b 1)))
 
   frame_in :
       (k : ℕ) → k < w.frames → Matched R w → w.frames < w.pool_len →
@@ -53,6 +53,5 @@ module _ {S L : Type 0} (R : Behaviour S L) (values : List ℕ) (B : ℕ) (w : W
   pub repeated : (k : ℕ) → Follows R values B (step R w (Repeat k)).0 (step R w (Repeat k)).1 t (tally_accepted R values t (Repeat k))
   unfolding step tally_accepted
   repeated k = attempted R values B w (with_pool R w (w.frames + 1) (set w.pool w.frames (get_or w.pool k 0))) _ w.frames t (tally_accepted R values t (Repeat k)) i (λ fine.
-      let b = sound_below R w w.frames k _ _ fine in
-      let d = passed (eqb w.frames w.pool_len) _ _ b.2 in
-      frame_in k b.1 b.0 (room_left d.0))
+      let b = none_holds (repeat_tests R w k) fine in
+      frame_in k (leb-false w.frames k (b 2)) (matched R w (b 1)) (room_left (b 3)))

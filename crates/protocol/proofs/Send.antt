@@ -1,7 +1,7 @@
 -- An accepted send keeps the invariant: its frames are the tally's slips, and a held letter of the station's round is taken in.
-use Rattle.std.proofs.Common.{◌≡◌, ℕ, zero, suc, ◌+◌, ◌-◌, ◌*◌, ◌<◌, ◌≤◌, Bool, true, false, ◌&&◌, ◌||◌, eqb, ltb, List, ◌∷◌, ◌++◌, length, get_or, set, Some, None, Option, sym, refl, ap, ◌∙◌, subst, inl, inr, arith}
+use Rattle.std.proofs.Common.{◌≡◌, ℕ, zero, suc, ◌+◌, ◌-◌, ◌<◌, ◌≤◌, Bool, true, false, ◌&&◌, ◌||◌, eqb, ltb, List, ◌∷◌, ◌++◌, length, get_or, set, Some, None, Option, sym, refl, ap, ◌∙◌, subst, inl, inr, arith}
 use Rattle.std.proofs.lemmas.List.{length-set, length-append, get_or_append_left, get_or-append_right, get_or-set_same, get_or-set_other}
-use Rattle.std.proofs.lemmas.Bool.{cases_eq, cases_lt, ltb-false, eq-eqb, ne_eqb, true≢false, false≢true, and_right}
+use Rattle.std.proofs.lemmas.Bool.{cases_eq, cases_lt, leb-false, ltb-false, eq-eqb, ne_eqb, true≢false, false≢true, and_right}
 use Rattle.rules.specs.Rule.{Behaviour, lockstep}
 use Rattle.lists.specs.Lists.{put}
 use Rattle.frames.specs.Frame.{pack_frame}
@@ -11,13 +11,17 @@ use Rattle.protocol.specs.declared.types.Stand.{Stand}
 use Rattle.protocol.specs.declared.types.Stand.TheVariants.{Fresh, Listening, Down}
 use Rattle.protocol.specs.declared.types.Step.TheVariants.{Send}
 use Rattle.protocol.specs.World.{World, station}
-use Rattle.protocol.specs.Calls.{step, with_pool, with_stations, with_letters, cell, state_of, is_fresh, is_listening, is_down, frames_from, frames_of, send_refusal, sent, due, listened, taken_in}
+use Rattle.protocol.specs.Records.{is_fresh, is_listening, is_down, due}
+use Rattle.protocol.specs.Rows.{row_cells, letter_cells, letter_cell, held_cell}
+use Rattle.protocol.specs.Calls.{step, send_tests, with_pool, with_stations, with_letters, state_of, frames_from, frames_of, send_refusal, sent, listened, taken_in}
 use Rattle.protocol.specs.Tally.{Tally, Slip, heard_in, nowhere, slips_from, tally_accepted}
 use Rattle.lists.proofs.Tables.{get_or_put_below, get_or_put_in}
-use Rattle.protocol.proofs.Places.{nth_some, cell_within, cell_written, cell_kept}
-use Rattle.lists.proofs.Options.{none_some, passed}
+use Rattle.protocol.proofs.Places.{nth_some}
+use Rattle.protocol.proofs.Rows.{cell_within, cell_written, cell_kept}
+use Rattle.lists.proofs.Options.{none_some}
 use Rattle.protocol.proofs.Holds.{due_some, due_none}
-use Rattle.protocol.proofs.Invariant.{Inv, Carry, Seated, Matched, sound_below, Follows, attempted}
+use Rattle.protocol.proofs.Invariant.{Inv, Carry, Seated, Matched, matched, Follows, attempted}
+use Rattle.protocol.proofs.Outcomes.{none_holds}
 use Rattle.protocol.proofs.Change.{pool_changed, station_changed}
 
 fresh_is : (x : Stand) → is_down x ≡ false → is_listening x ≡ false → is_fresh x ≡ true
@@ -112,7 +116,7 @@ same_note x r k q s e hs h silent = elim (cases_eq q s) [
   | inr eq ↦ rw (silent q, get_or-set_other hs s q true false eq, silent q, ne_eqb s q (λ z. eq (sym z))) (ap (λ y. (eqb r k && false) || y) (and_right (eqb x r) false refl))
 ]
 
-module _ {S L : Type 0} (R : Behaviour S L) (values : List ℕ) (few : length values ≤ 16) (B : ℕ) (w : World S L) (t : Tally) (i : Inv R values B w t) (letters : w.n * (w.n + 1) ≤ length w.letters)
+module _ {S L : Type 0} (R : Behaviour S L) (values : List ℕ) (few : length values ≤ 16) (B : ℕ) (w : World S L) (t : Tally) (i : Inv R values B w t) (letters : letter_cells w.n ≤ length w.letters)
     (p : ℕ) (h : p < length values) (up : is_down (station w p).stand ≡ false) (fresh : is_fresh (station w p).stand ≡ true) where
   abbrev old : StationRecord
   old = station w p
@@ -149,13 +153,13 @@ module _ {S L : Type 0} (R : Behaviour S L) (values : List ℕ) (few : length va
       let a = at.live up in
       let n_is : w.n ≡ length values = i.n_is in
       let b = a.holding x e in
-      let hx : x.sender ≤ w.n = omega (arith, b.sender) in
+      let hx : x.sender < row_cells w.n = omega (arith, b.sender) in
       let inside : x.sender < length old.heard = omega (arith, b.sender, a.places) in
-      let l = nth_some w.letters (cell w.n p w.n) (omega (arith, letters, cell_within w.n p w.n (omega arith) (omega arith))) in
-      let c : ℕ = cell w.n p x.sender in
+      let l = nth_some w.letters (held_cell w.n p) (omega (arith, letters, cell_within w.n p w.n (omega arith) (omega arith))) in
+      let c : ℕ = letter_cell w.n p x.sender in
       subst (λ o. Inv R values B (with_letters R
       (with_stations R w (set w.stations p (record old { stand = Listening; heard = set old.heard x.sender true; hold = None })))
-      (elim o [ None ↦ w.letters | Some l ↦ set w.letters (cell w.n p x.sender) l ])) t) (sym l.1)
+      (elim o [ None ↦ w.letters | Some l ↦ set w.letters (letter_cell w.n p x.sender) l ])) t) (sym l.1)
       (station_changed R values B w t i p (record old { stand = Listening; heard = set old.heard x.sender true; hold = None })
       (set w.letters c l.0) t.notes h (λ p' r q e. refl)
       (λ p' q d hq. cell_kept w.letters w.n p x.sender l.0 hx p' q hq (λ z _. d z)) (record {
@@ -187,11 +191,8 @@ module _ {S L : Type 0} (R : Behaviour S L) (values : List ℕ) (few : length va
   pub sends : (p : ℕ) → Follows R values B (step R w (Send p)).0 (step R w (Send p)).1 t (tally_accepted R values t (Send p))
   unfolding step tally_accepted
   sends p = attempted R values B w (sent R w p) (send_refusal R w p) (length (frames_of R w p)) t (tally_accepted R values t (Send p)) i (λ fine.
-      let n_is = i.n_is in
-      let b = sound_below R w w.n p _ _ fine in
-      let d = passed (is_down (station w p).stand) _ _ b.2 in
-      let e = passed (is_listening (station w p).stand) _ _ d.1 in
-      let f = passed (ltb (w.pool_len - w.frames) (length (frames_of R w p))) _ _ e.1 in
-      let h : p < length values = omega (arith, b.1) in
-      let j = pooled R values B w t i p h b.0 f.0 in
-      begun R values few B (v R values B w t i p h) (t₁ R values B w t i p h) j b.0.letters p h d.0 (fresh_is (station w p).stand d.0 e.0) (due (station w p).hold (station w p).round) refl)
+      let b = none_holds (send_tests R w p) fine in
+      let m : Matched R w = matched R w (b 1) in
+      let h : p < length values = omega (arith, leb-false w.n p (b 2), i.n_is) in
+      let j = pooled R values B w t i p h m (b 5) in
+      begun R values few B (v R values B w t i p h) (t₁ R values B w t i p h) j m.letters p h (b 3) (fresh_is (station w p).stand (b 3) (b 4)) (due (station w p).hold (station w p).round) refl)

@@ -1,14 +1,16 @@
 -- An opened shed and the empty tally keep the invariant.
-use Rattle.std.proofs.Common.{◌≡◌, ℕ, ◌+◌, ◌*◌, ◌<◌, ◌≤◌, false, not, ◌&&◌, ◌||◌, eqb, ltb, List, length, get_or, None, sym, refl, ◌∙◌, arith}
+use Rattle.std.proofs.Common.{◌≡◌, ℕ, ◌<◌, ◌≤◌, false, ◌&&◌, eqb, ltb, List, length, get_or, None, sym, refl, ◌∙◌, arith}
 use native.Mathlib.Nat.{sub-zero}
 use Rattle.std.proofs.lemmas.List.{get_or-replicate}
 use Rattle.std.proofs.lemmas.Bool.{or_parts, ltb-false, eqb-false, false≢true, and_right, or_from}
 use Rattle.rules.specs.Rule.{Behaviour, Interface, lockstep}
 use Rattle.protocol.specs.World.{World, blank, station}
-use Rattle.protocol.specs.Calls.{open_refusal, opened, state_of}
+use Rattle.protocol.specs.Rows.{letter_cells}
+use Rattle.protocol.specs.Calls.{open_refusal, open_tests, opened, state_of}
 use Rattle.protocol.specs.Tally.{start}
 use Rattle.lists.proofs.Tables.{get_or_written, get_or_replicate_all}
-use Rattle.lists.proofs.Options.{passed, none_some}
+use Rattle.lists.proofs.Options.{none_some}
+use Rattle.protocol.proofs.Outcomes.{none_holds}
 use Rattle.protocol.proofs.Invariant.{Inv, Seated}
 
 -- what an accepted opening says
@@ -21,12 +23,9 @@ module _ {S L : Type 0} (R : Behaviour S L) (face : Interface R) (w : World S L)
   pub opens : Opens R w values
   opens =
       let n : ℕ = length values in
-      let a = passed (not (eqb w.n 0)) _ _ fine in
-      let b = passed (eqb n 0 || ltb R.most n) _ _ a.1 in
-      let c = passed (eqb (length w.pool) 0 || ltb 4096 (length w.pool) || ltb 65536 (length w.book)) _ _ b.1 in
-      let d = passed (ltb (length w.states) n || ltb (length w.letters) (n * (n + 1))) _ _ c.1 in
-      let v = or_parts (eqb n 0) (ltb R.most n) b.0 in
-      let m = or_parts (ltb (length w.states) n) (ltb (length w.letters) (n * (n + 1))) d.0 in
+      let a = none_holds (open_tests R w values) fine in
+      let v = or_parts (eqb n 0) (ltb R.most n) (a 1) in
+      let m = or_parts (ltb (length w.states) n) (ltb (length w.letters) (letter_cells n)) (a 3) in
       record {
         some = omega (arith, eqb-false (length values) 0 v.0);
         few = ltb-false R.most (length values) v.1;

@@ -3,7 +3,7 @@ use Rattle.std.proofs.Common.{◌≡◌, ℕ, suc, ◌+◌, ◌-◌, ◌<◌, �
 use Rattle.std.specs.List.{slice_get}
 use Rattle.std.proofs.Math.Bool.{or-false}
 use Rattle.std.proofs.lemmas.List.{length-set, length_push, length-map, length-append, length-replicate, get_or-set_same, get_or-set_other, ext_get_or, set_at, map_push, append_assoc}
-use Rattle.std.proofs.lemmas.Bool.{cases_eq, cases_Bool, eqb-true, eqb-false, eq-eqb, ne_eqb, true≢false, false≢true, cond_both, cond-true, cond-false, and_parts, and_left, and_right}
+use Rattle.std.proofs.lemmas.Bool.{cases_eq, cases_Bool, leb-false, eqb-true, eqb-false, eq-eqb, ne_eqb, true≢false, false≢true, cond_both, cond-true, cond-false, and_parts, and_left, and_right}
 use Rattle.lists.specs.Lists.{tabulate}
 use Rattle.rules.specs.Rule.{Behaviour, Heard, letter_heard, lockstep}
 use Rattle.frames.specs.Book.{pack_entry}
@@ -12,14 +12,16 @@ use Rattle.protocol.specs.declared.types.StationRecord.{StationRecord}
 use Rattle.protocol.specs.declared.types.Stand.TheVariants.{Fresh}
 use Rattle.protocol.specs.declared.types.Step.TheVariants.{Turn}
 use Rattle.protocol.specs.World.{World, station, blank}
-use Rattle.protocol.specs.Calls.{step, cell, state_of, is_fresh, is_down, mailbox_of, turn_refusal, turned}
+use Rattle.protocol.specs.Records.{is_fresh, is_down}
+use Rattle.protocol.specs.Rows.{letter_cell, held_cell}
+use Rattle.protocol.specs.Calls.{step, turn_tests, state_of, mailbox_of, turn_refusal, turned}
 use Rattle.protocol.specs.Tally.{Tally, Triple, heard_in, tally_accepted}
 use Rattle.protocol.specs.Guarantee.{entry}
 use Rattle.lists.proofs.Tables.{length_tabulate, get_or_tabulate, get_or_replicate_all, tabulate_same}
 use Rattle.protocol.proofs.Words.{Whole}
 use Rattle.rules.proofs.Runs.{Known, run_grows}
-use Rattle.lists.proofs.Options.{passed}
-use Rattle.protocol.proofs.Invariant.{Inv, Live, Seat, Seated, Over, Grows, held, seat_kept, carry_kept, brought_kept, Matched, sound_below, Follows, attempted}
+use Rattle.protocol.proofs.Invariant.{Inv, Live, Seat, Seated, Over, Grows, held, seat_kept, carry_kept, brought_kept, Matched, matched, Follows, attempted}
+use Rattle.protocol.proofs.Outcomes.{none_holds}
 
 -- ---- one more triple
 heard_before : (ts : List Triple) (u : Triple) (p k q : ℕ) → (u.station ≡ p → u.round ≡ k → ⊥) → heard_in (ts ++ (u ∷ [])) p k q ≡ heard_in ts p k q
@@ -111,7 +113,7 @@ module _ {S L : Type 0} (R : Behaviour S L) (values : List ℕ) (B : ℕ) (w : W
   at : Seated R values w t p
   at = i.seats p h
 
-  a : Live R values (heard_in t.triples) t.rounds (t.notes p) s (λ q. slice_get w.letters (cell w.n p q)) (slice_get w.letters (cell w.n p w.n)) p
+  a : Live R values (heard_in t.triples) t.rounds (t.notes p) s w.n w.letters p
   a = at.live up
 
   grows : Grows R values (heard_in t.triples) t.rounds Hn (moved t.rounds p)
@@ -148,7 +150,7 @@ module _ {S L : Type 0} (R : Behaviour S L) (values : List ℕ) (B : ℕ) (w : W
 
   mail_is : mailbox_of R w p ≡ tabulate (length values) (letter_heard R (length values) p rd (Hn p rd) (lockstep R values Hn rd))
   mail_is =
-      let theirs : ℕ → Option L = λ q. cond (get_or s.heard q false) (slice_get w.letters (cell w.n p q)) None in
+      let theirs : ℕ → Option L = λ q. cond (get_or s.heard q false) (slice_get w.letters (letter_cell w.n p q)) None in
       ap (λ m. tabulate m theirs) i.n_is ∙ tabulate_same (length values) theirs (letter_heard R (length values) p rd (Hn p rd) (lockstep R values Hn rd)) (λ q l. elim (cases_Bool (get_or s.heard q false)) [
         | inl m ↦
             let b = a.marked q m in
@@ -172,7 +174,7 @@ module _ {S L : Type 0} (R : Behaviour S L) (values : List ℕ) (B : ℕ) (w : W
 
   seat_then :
       eqb s.round 4095 ≡ false → (x : S) → x ≡ R.next w.n p s.round (state_of R w p) (mailbox_of R w p) →
-      Seat R values Hn (moved t.rounds p) (t.notes p) then x (λ q. slice_get w.letters (cell w.n p q)) (slice_get w.letters (cell w.n p w.n)) p
+      Seat R values Hn (moved t.rounds p) (t.notes p) then x w.n w.letters p
   seat_then more_left x e =
       let more : moved t.rounds p p ≡ rd + 1 = moved_here t.rounds p in
       record {
@@ -185,7 +187,7 @@ module _ {S L : Type 0} (R : Behaviour S L) (values : List ℕ) (B : ℕ) (w : W
               let past : rd < r = omega (arith, rw more at g) in
               a.noted r q (omega arith) ∙ rw (ne_eqb r rd (λ z. absurd (omega arith)), get_or_replicate_all 16 q false, and_right (eqb r (moved t.rounds p p)) false refl);
           marked = λ q m. absurd (false≢true (sym (get_or_replicate_all 16 q false) ∙ m));
-          holding = λ y z. brought_kept R values (heard_in t.triples) Hn t.rounds (moved t.rounds p) grows (slice_get w.letters (cell w.n p w.n)) y.sender y.round p (a.holding y z);
+          holding = λ y z. brought_kept R values (heard_in t.triples) Hn t.rounds (moved t.rounds p) grows (slice_get w.letters (held_cell w.n p)) y.sender y.round p (a.holding y z);
           ahead = λ y z. rw more (omega (arith, a.later ready y z));
           later = λ f. absurd (true≢false f);
           silent = λ _ q. get_or_replicate_all 16 q false;
@@ -209,8 +211,8 @@ module _ {S L : Type 0} (R : Behaviour S L) (values : List ℕ) (B : ℕ) (w : W
         seats = λ x hx. elim (cases_eq x p) [
           | inl e ↦ rw (e, get_or-set_same w.stations p then blank (omega (arith, i.wide))) (seat_then more_left _ (get_or-set_same w.states p _ _ (omega (arith, m.states))))
           | inr e ↦ seat_kept R values (heard_in t.triples) Hn t.rounds (moved t.rounds p) grows (t.notes x) (t.notes x) (station w x) _ (state_of R w x) _
-              (λ q. slice_get w.letters (cell w.n x q)) (λ q. slice_get w.letters (cell w.n x q)) (slice_get w.letters (cell w.n x w.n)) (slice_get w.letters (cell w.n x w.n)) x
-              (moved_apart t.rounds p x e) (λ r q. refl) (get_or-set_other w.stations p x then blank e) (get_or-set_other w.states p x _ _ e) (λ q l. refl) refl (i.seats x hx)
+              w.n w.letters w.letters x
+              (moved_apart t.rounds p x e) (λ r q. refl) (get_or-set_other w.stations p x then blank e) (get_or-set_other w.states p x _ _ e) n_is (λ j l. refl) (i.seats x hx)
         ];
         entries_are = rw length_push (omega (arith, i.entries_are));
         book_is = book_push t.triples w.book B w.entries i.book_is i.entries_are (new R values t i.known p) (pack_entry p s.round s.heard) free word;
@@ -224,9 +226,5 @@ module _ {S L : Type 0} (R : Behaviour S L) (values : List ℕ) (B : ℕ) (w : W
   unfolding step
   turns p = attempted R values B w (turned R w p) (turn_refusal R w p) ((station w p).round + 1) t (tally_accepted R values t (Turn p)) i (λ fine.
       let n_is = i.n_is in
-      let b = sound_below R w w.n p _ _ fine in
-      let d = passed (is_down (station w p).stand) _ _ b.2 in
-      let e = passed (is_fresh (station w p).stand) _ _ d.1 in
-      let f = passed (eqb w.entries w.book_len) _ _ e.1 in
-      let g = passed (eqb (station w p).round 4095) _ _ f.1 in
-      turned_well R values B w t i p (omega (arith, b.1)) d.0 e.0 b.0 f.0 g.0)
+      let b = none_holds (turn_tests R w p) fine in
+      turned_well R values B w t i p (omega (arith, leb-false w.n p (b 2))) (b 3) (b 4) (matched R w (b 1)) (b 5) (b 6))

@@ -1,13 +1,11 @@
 -- What each call answers and leaves, by cases.
-use Rattle.std.specs.Prelude.{ℕ, zero, suc, ◌+◌, ◌-◌, ◌*◌, Bool, true, false, cond, not, ◌||◌, List, [], ◌∷◌, ◌++◌, length, get_or, set, replicate, Some, None, Ok, Err, Option, Result, ◌==◌, nat_le, nat_lt, slice_index, slice_index_or, slice_set}
+use Rattle.std.specs.Prelude.{ℕ, zero, suc, ◌+◌, ◌-◌, Bool, true, false, cond, not, ◌||◌, List, [], ◌∷◌, ◌++◌, length, get_or, set, replicate, Some, None, Ok, Err, Option, Result, ◌==◌, nat_lt, slice_index, slice_index_or, slice_set}
 use Rattle.lists.specs.Lists.{tabulate, written, put}
 use Rattle.rules.specs.Rule.{Behaviour}
-use Rattle.protocol.specs.declared.types.Held.{Held}
 use Rattle.protocol.specs.declared.types.StationRecord.{StationRecord}
-use Rattle.protocol.specs.declared.types.Stand.{Stand}
 use Rattle.protocol.specs.declared.types.Stand.TheVariants.{Fresh, Listening, Down}
 use Rattle.protocol.specs.declared.refusal.Refusal.{Refusal}
-use Rattle.protocol.specs.declared.refusal.Refusal.TheVariants.{Shut, AlreadyOpen, ValueCount, BufferSize, BufferMismatch, NoSuchStation, NoSuchPlace, Unreadable, StationDown, AlreadySent, NotListening, HoldsLetter, PoolFull, BookFull, LastRound}
+use Rattle.protocol.specs.declared.refusal.Refusal.TheVariants.{AlreadyOpen, ValueCount, BufferSize, BufferMismatch, Unreadable, StationDown, NotListening, HoldsLetter, PoolFull}
 use Rattle.protocol.specs.declared.types.Sight.{Sight}
 use Rattle.protocol.specs.declared.types.Fate.{Fate}
 use Rattle.protocol.specs.declared.types.Fate.TheVariants.{Late, Again, Taken, Early}
@@ -19,35 +17,10 @@ use Rattle.frames.specs.Frame.{Frame, pack_frame, read_frame}
 use Rattle.frames.specs.Book.{pack_entry}
 use Rattle.frames.specs.Pool.{take_out}
 use Rattle.protocol.specs.Refusals.{first_refusal, first_outcome, attempt}
+use Rattle.protocol.specs.Rows.{letter_cells, letter_cell, held_cell}
+use Rattle.protocol.specs.Tests.{ready_tests, place_tests, station_tests, standing_tests, speaker_tests, turner_tests}
+use Rattle.protocol.specs.Records.{is_fresh, is_down, holds, due}
 use Rattle.protocol.specs.World.{World, blank, hearing, holding, station}
-
-abbrev pub is_fresh : Stand → Bool
-is_fresh Fresh = true
-is_fresh Listening = false
-is_fresh Down = false
-
-abbrev pub is_listening : Stand → Bool
-is_listening Fresh = false
-is_listening Listening = true
-is_listening Down = false
-
-abbrev pub is_down : Stand → Bool
-is_down Fresh = false
-is_down Listening = false
-is_down Down = true
-
-abbrev pub holds : Option Held → Bool
-holds None = false
-holds (Some h) = true
-
--- where the letter that p has from q lies, and where its held letter lies (q = n)
-abbrev pub cell : ℕ → ℕ → ℕ → ℕ
-cell n p q = p * (n + 1) + q
-
--- the sender of a held letter of round k
-abbrev pub due : Option Held → ℕ → Option ℕ
-due None k = None
-due (Some h) k = cond (h.round == k) (Some h.sender) None
 
 -- the record of a station that begins to listen, and the sender of the held letter that it takes in
 abbrev pub listened : StationRecord → Option ℕ → StationRecord
@@ -61,11 +34,11 @@ copied letters from to = elim (slice_get letters from) [ None ↦ letters | Some
 -- the letters when p's held letter has moved into the cell of its sender
 abbrev pub taken_in : {L : Type 0} → ℕ → ℕ → Option ℕ → List L → List L
 taken_in n p None letters = letters
-taken_in n p (Some q) letters = copied letters (cell n p n) (cell n p q)
+taken_in n p (Some q) letters = copied letters (held_cell n p) (letter_cell n p q)
 
 -- the letter that p has from q, if it heard q
 abbrev pub mail : {L : Type 0} → (n p : ℕ) → List Bool → List L → ℕ → Option L
-mail n p heard letters q = cond (slice_index_or heard q false) (slice_get letters (cell n p q)) None
+mail n p heard letters q = cond (slice_index_or heard q false) (slice_get letters (letter_cell n p q)) None
 
 -- the fate of a frame of round k from q at a station, or why the station does not take it, in checking order
 abbrev pub judged : StationRecord → (q k : ℕ) → Result Fate Refusal
@@ -85,12 +58,12 @@ received_stations rs f Again = rs
 received_stations rs f Taken = slice_set rs f.1 (hearing (get_or rs f.1 blank) f.0)
 received_stations rs f Early = slice_set rs f.1 (holding (get_or rs f.1 blank) (record { sender = f.0; round = f.2 }))
 
--- the letters likewise: the frame's letter lies in its sender's cell, or in the last cell of the receiver's row
+-- the letters likewise: the frame's letter lies in its sender's cell, or in that of the held letter
 abbrev pub received_letters : {L : Type 0} → ℕ → List L → Frame L → Fate → List L
 received_letters n ls f Late = ls
 received_letters n ls f Again = ls
-received_letters n ls f Taken = slice_set ls (cell n f.1 f.0) f.3
-received_letters n ls f Early = slice_set ls (cell n f.1 n) f.3
+received_letters n ls f Taken = slice_set ls (letter_cell n f.1 f.0) f.3
+received_letters n ls f Early = slice_set ls (held_cell n f.1) f.3
 
 module _ {S L : Type 0} (R : Behaviour S L) where
   -- ---- changes of a world
@@ -107,24 +80,17 @@ module _ {S L : Type 0} (R : Behaviour S L) where
   abbrev pub without_frame : World S L → ℕ → World S L
   without_frame w k = with_pool w (w.frames - 1) (take_out 0 w.pool w.frames k)
 
-  -- ---- tests that several calls share
-  abbrev pub mismatched : World S L → Bool
-  mismatched w =
-      nat_lt (length w.states) w.n || nat_lt (length w.letters) (w.n * (w.n + 1)) || not (length w.pool == w.pool_len) || not (length w.book == w.book_len)
-
-  -- a place of the pool is asked for
-  abbrev pub place_refusal : World S L → ℕ → Option Refusal
-  place_refusal w k = first_refusal (((w.n == 0), Shut) ∷ (mismatched w, BufferMismatch) ∷ (nat_le w.frames k, NoSuchPlace) ∷ [])
-
   -- ---- open
-  abbrev pub open_refusal : World S L → List ℕ → Option Refusal
-  open_refusal w values =
+  abbrev pub open_tests : World S L → List ℕ → List (Bool × Refusal)
+  open_tests w values =
       let n : ℕ = length values in
-      first_refusal (
       (not (w.n == 0), AlreadyOpen) ∷
       (n == 0 || nat_lt R.most n, ValueCount) ∷
       (length w.pool == 0 || nat_lt 4096 (length w.pool) || nat_lt 65536 (length w.book), BufferSize) ∷
-      (nat_lt (length w.states) n || nat_lt (length w.letters) (n * (n + 1)), BufferMismatch) ∷ [])
+      (nat_lt (length w.states) n || nat_lt (length w.letters) (letter_cells n), BufferMismatch) ∷ []
+
+  abbrev pub open_refusal : World S L → List ℕ → Option Refusal
+  open_refusal w values = first_refusal (open_tests w values)
 
   abbrev pub opened : World S L → List ℕ → World S L
   opened w values =
@@ -161,20 +127,11 @@ module _ {S L : Type 0} (R : Behaviour S L) where
   abbrev pub frames_of : World S L → ℕ → List ℕ
   frames_of w p = frames_from w.n p (station w p).round (state_of w p) 0 w.n
 
-  -- what is asked of a station before its frames are counted
-  abbrev pub speaker_tests : World S L → ℕ → List (Bool × Refusal)
-  speaker_tests w p =
-      ((w.n == 0), Shut) ∷
-      (mismatched w, BufferMismatch) ∷
-      (nat_le w.n p, NoSuchStation) ∷
-      (is_down (station w p).stand, StationDown) ∷
-      (is_listening (station w p).stand, AlreadySent) ∷ []
-
-  abbrev pub speaker_refusal : World S L → ℕ → Option Refusal
-  speaker_refusal w p = first_refusal (speaker_tests w p)
+  abbrev pub send_tests : World S L → ℕ → List (Bool × Refusal)
+  send_tests w p = ready_tests w ++ speaker_tests w.n p (station w p) ++ (nat_lt (w.pool_len - w.frames) (length (frames_of w p)), PoolFull) ∷ []
 
   abbrev pub send_refusal : World S L → ℕ → Option Refusal
-  send_refusal w p = first_refusal (speaker_tests w p ++ (nat_lt (w.pool_len - w.frames) (length (frames_of w p)), PoolFull) ∷ [])
+  send_refusal w p = first_refusal (send_tests w p)
 
   -- p listens; a held letter of its own round is taken in
   abbrev pub listening : World S L → ℕ → World S L
@@ -189,6 +146,13 @@ module _ {S L : Type 0} (R : Behaviour S L) where
   send_call w p = attempt w (send_refusal w p) (length (frames_of w p)) (sent w p)
 
   -- ---- deliver
+  -- what a delivery or a drop asks for
+  abbrev pub taking_tests : World S L → ℕ → List (Bool × Refusal)
+  taking_tests w k = ready_tests w ++ place_tests w.frames k
+
+  abbrev pub place_refusal : World S L → ℕ → Option Refusal
+  place_refusal w k = first_refusal (taking_tests w k)
+
   abbrev pub frame_at : World S L → ℕ → Option (Frame L)
   frame_at w k = read_frame R w.n (slice_index w.pool k)
 
@@ -214,13 +178,11 @@ module _ {S L : Type 0} (R : Behaviour S L) where
   drop_call w k =
       attempt w (place_refusal w k) 0 (without_frame w k)
 
+  abbrev pub repeat_tests : World S L → ℕ → List (Bool × Refusal)
+  repeat_tests w k = ready_tests w ++ place_tests w.frames k ++ ((w.frames == w.pool_len), PoolFull) ∷ []
+
   abbrev pub repeat_refusal : World S L → ℕ → Option Refusal
-  repeat_refusal w k =
-      first_refusal (
-      ((w.n == 0), Shut) ∷
-      (mismatched w, BufferMismatch) ∷
-      (nat_le w.frames k, NoSuchPlace) ∷
-      ((w.frames == w.pool_len), PoolFull) ∷ [])
+  repeat_refusal w k = first_refusal (repeat_tests w k)
 
   abbrev pub repeat_call : World S L → ℕ → Result ℕ Refusal × World S L
   repeat_call w k =
@@ -232,17 +194,11 @@ module _ {S L : Type 0} (R : Behaviour S L) where
   abbrev pub mailbox_of : World S L → ℕ → List (Option L)
   mailbox_of w p = tabulate w.n (mail w.n p (station w p).heard w.letters)
 
+  abbrev pub turn_tests : World S L → ℕ → List (Bool × Refusal)
+  turn_tests w p = ready_tests w ++ turner_tests w.n p (station w p) w.entries w.book_len
+
   abbrev pub turn_refusal : World S L → ℕ → Option Refusal
-  turn_refusal w p =
-      let s : StationRecord = station w p in
-      first_refusal (
-      ((w.n == 0), Shut) ∷
-      (mismatched w, BufferMismatch) ∷
-      (nat_le w.n p, NoSuchStation) ∷
-      (is_down s.stand, StationDown) ∷
-      (is_fresh s.stand, NotListening) ∷
-      ((w.entries == w.book_len), BookFull) ∷
-      ((s.round == 4095), LastRound) ∷ [])
+  turn_refusal w p = first_refusal (turn_tests w p)
 
   abbrev pub turned : World S L → ℕ → World S L
   turned w p =
@@ -258,13 +214,11 @@ module _ {S L : Type 0} (R : Behaviour S L) where
   turn_call w p = attempt w (turn_refusal w p) ((station w p).round + 1) (turned w p)
 
   -- ---- crash
+  abbrev pub crash_tests : World S L → ℕ → List (Bool × Refusal)
+  crash_tests w p = ready_tests w ++ standing_tests w.n p (station w p)
+
   abbrev pub crash_refusal : World S L → ℕ → Option Refusal
-  crash_refusal w p =
-      first_refusal (
-      ((w.n == 0), Shut) ∷
-      (mismatched w, BufferMismatch) ∷
-      (nat_le w.n p, NoSuchStation) ∷
-      (is_down (station w p).stand, StationDown) ∷ [])
+  crash_refusal w p = first_refusal (crash_tests w p)
 
   abbrev pub crash_call : World S L → ℕ → Result ℕ Refusal × World S L
   crash_call w p =
@@ -274,8 +228,11 @@ module _ {S L : Type 0} (R : Behaviour S L) where
       (with_stations w (slice_set w.stations p (record s { stand = Down })))
 
   -- ---- look
+  abbrev pub look_tests : World S L → ℕ → List (Bool × Refusal)
+  look_tests w p = ready_tests w ++ station_tests w.n p
+
   abbrev pub look_refusal : World S L → ℕ → Option Refusal
-  look_refusal w p = first_refusal (((w.n == 0), Shut) ∷ (mismatched w, BufferMismatch) ∷ (nat_le w.n p, NoSuchStation) ∷ [])
+  look_refusal w p = first_refusal (look_tests w p)
 
   abbrev pub look_call : World S L → ℕ → Result Sight Refusal × World S L
   look_call w p =

@@ -1,6 +1,6 @@
 -- Every call keeps the number of stations and the lengths of the buffers, so whoever looks after a run is not refused.
 use Rattle.std.proofs.lemmas.Bool.Decides.{nat_tests}
-use Rattle.std.proofs.Common.{◌≡◌, ℕ, ◌+◌, ◌*◌, ◌<◌, ◌≤◌, List, [], ◌∷◌, length, get_or, drop, set, Some, None, Option, sym, refl, ◌∙◌, arith}
+use Rattle.std.proofs.Common.{◌≡◌, ℕ, ◌+◌, ◌<◌, ◌≤◌, List, [], ◌∷◌, length, get_or, drop, set, Some, None, Option, sym, refl, ◌∙◌, arith}
 use Rattle.std.specs.List.{slice_get}
 use Rattle.std.proofs.lemmas.List.{length-set, length-append, length-replicate}
 use Rattle.rules.specs.Rule.{Behaviour}
@@ -17,7 +17,9 @@ use Rattle.protocol.specs.declared.types.Step.TheVariants.{Send, Deliver, Drop, 
 use Rattle.protocol.specs.World.{World, station}
 use Rattle.protocol.specs.Refusals.{attempt}
 use Rattle.protocol.proofs.Outcomes.{attempt_by, deliver_by}
-use Rattle.protocol.specs.Calls.{cell, taken_in, due, received_letters, opened, open_refusal, look_refusal, frames_of, sent, send_refusal, without_frame, received, place_refusal, repeat_refusal, with_pool, with_stations, turned, turn_refusal, crash_refusal, step, after}
+use Rattle.protocol.specs.Rows.{letter_cells, letter_cell, held_cell}
+use Rattle.protocol.specs.Records.{due}
+use Rattle.protocol.specs.Calls.{taken_in, received_letters, opened, open_refusal, look_refusal, frames_of, sent, send_refusal, without_frame, received, place_refusal, repeat_refusal, with_pool, with_stations, turned, turn_refusal, crash_refusal, step, after}
 use Rattle.protocol.proofs.Invariant.{Matched}
 
 -- ---- lengths of cells
@@ -32,13 +34,13 @@ module _ {L : Type 0} where
 
   length_taken_in : (n p : ℕ) (o : Option ℕ) (ls : List L) → length (taken_in n p o ls) ≡ length ls
   length_taken_in n p None ls = refl
-  length_taken_in n p (Some q) ls = length_copied ls (slice_get ls (cell n p n)) (cell n p q)
+  length_taken_in n p (Some q) ls = length_copied ls (slice_get ls (held_cell n p)) (letter_cell n p q)
 
   length_received : (n : ℕ) (ls : List L) (f : Frame L) (x : Fate) → length (received_letters n ls f x) ≡ length ls
   length_received n ls f Late = refl
   length_received n ls f Again = refl
-  length_received n ls f Taken = length-set ls (cell n f.1 f.0) f.3
-  length_received n ls f Early = length-set ls (cell n f.1 n) f.3
+  length_received n ls f Taken = length-set ls (letter_cell n f.1 f.0) f.3
+  length_received n ls f Early = length-set ls (held_cell n f.1) f.3
 
 -- ---- calls
 module _ {S L : Type 0} (R : Behaviour S L) where
@@ -116,7 +118,7 @@ module _ {S L : Type 0} (R : Behaviour S L) where
   pub record Accepted (new : World S L) (values : List ℕ) : Type 0 where
     pub few : length values ≤ R.most
     pub book : length new.book ≤ 65536
-    pub letters : length values * (length values + 1) ≤ length new.letters
+    pub letters : letter_cells (length values) ≤ length new.letters
 
   pub accepted : (new : World S L) (values : List ℕ) → open_refusal R new values ≡ None → Accepted new values
   accepted new values fine =
@@ -156,5 +158,5 @@ module _ {S L : Type 0} (R : Behaviour S L) where
   book_length new values cs = (after_sizes (opened R new values) cs).book ∙ length-replicate (length new.book) 0
 
   -- an opening that is refused nothing
-  pub opens : (new : World S L) (values : List ℕ) → new.n ≡ 0 → 0 < length values → length values ≤ R.most → 0 < length new.pool → length new.pool ≤ 4096 → length new.book ≤ 65536 → length values ≤ length new.states → length values * (length values + 1) ≤ length new.letters → open_refusal R new values ≡ None
+  pub opens : (new : World S L) (values : List ℕ) → new.n ≡ 0 → 0 < length values → length values ≤ R.most → 0 < length new.pool → length new.pool ≤ 4096 → length new.book ≤ 65536 → length values ≤ length new.states → letter_cells (length values) ≤ length new.letters → open_refusal R new values ≡ None
   opens new values shut some few pool pool-few book states letters = grind (arith, nat_tests, shut, some, few, pool, pool-few, book, states, letters)

@@ -1,4 +1,3 @@
 pub mod Stations
 pub mod Worlds
-pub mod Turning
 pub mod Gather

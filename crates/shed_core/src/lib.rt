@@ -3,5 +3,6 @@
 
 pub mod buffers;
 mod cells;
+pub mod rows;
 pub mod shed;
 pub mod table;

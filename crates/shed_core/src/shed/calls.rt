@@ -77,7 +77,7 @@ impl Shed {
             (look_call (R.Rule.behaviour rule.now)
             (world self.now states.now letters.now pool.now book.now) p) }
     {
-        self.fits(states.len(), letters.len(), pool.len(), book.len())?;
+        self.fits(states, letters, pool, book)?;
         let station = self.station(p)?;
         Ok(Sight {
             stand: station.stand,

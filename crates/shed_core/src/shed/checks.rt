@@ -1,8 +1,11 @@
 // What the calls ask for before they act.
-ghost use Rattle.std.specs.Prelude.{[], ◌∷◌, length};
-ghost use Rattle.shed_core.specs.Checks.{Checked, is_in, fit_tests, record_of, station_tests, standing_tests, speaker_tests, turner_tests};
+ghost use Rattle.std.specs.Prelude.{[], ◌∷◌};
+ghost use Rattle.protocol.specs.Tests.{ready_tests, station_tests, standing_tests, speaker_tests, turner_tests};
+ghost use Rattle.shed_core.specs.Of.{world, world_of};
+ghost use Rattle.shed_core.specs.Checks.{Checked, is_in, record_of};
 
 use crate::buffers::Buffers;
+use crate::rows::letter_cells;
 use crate::shed::Shed;
 use protocol::refusal::Refusal;
 use protocol::types::{Stand, StationRecord};
@@ -19,24 +22,24 @@ fn not_in(stand: Stand, station: StationRecord, refusal: Refusal) -> Result<Stat
 }
 
 impl Shed {
-    // The shed is open; none of four buffers of these lengths is too short, and the pool and the book have the lengths
-    // that they had at opening.
-    pub(super) fn fits(
+    // The shed is open; none of the four buffers is too short, and the pool and the book have the lengths that they had at
+    // opening.
+    pub(super) fn fits<S, L>(
         &self,
-        states: usize,
-        letters: usize,
-        pool: usize,
-        book: usize,
+        states: &[S],
+        letters: &[L],
+        pool: &[u64],
+        book: &[u64],
     ) -> Result<(), Refusal>
-        ensures { Checked (fit_tests self.now states letters pool book) tt result }
+        ensures { Checked (ready_tests (world self.now states.now letters.now pool.now book.now)) tt result }
     {
         if self.count == 0 {
             return Err(Refusal::Shut);
         }
-        if states < self.count || letters < self.count * (self.count + 1) {
+        if states.len() < self.count || letters.len() < letter_cells(self.count) {
             return Err(Refusal::BufferMismatch);
         }
-        if pool != self.pool_len || book != self.book_len {
+        if pool.len() != self.pool_len || book.len() != self.book_len {
             return Err(Refusal::BufferMismatch);
         }
         Ok(())
@@ -44,15 +47,9 @@ impl Shed {
 
     // The shed is open, and the buffers fit it.
     pub(super) fn ready<S, L>(&self, buffers: &Buffers<'_, S, L>) -> Result<(), Refusal>
-        ensures { Checked (fit_tests self.now (length buffers.now.states.now) (length buffers.now.letters.now)
-            (length buffers.now.pool.now) (length buffers.now.book.now)) tt result }
+        ensures { Checked (ready_tests (world_of self.now buffers.now)) tt result }
     {
-        self.fits(
-            buffers.states.len(),
-            buffers.letters.len(),
-            buffers.pool.len(),
-            buffers.book.len(),
-        )
+        self.fits(buffers.states, buffers.letters, buffers.pool, buffers.book)
     }
 
     // The record of station p.

@@ -5,6 +5,7 @@ ghost use Rattle.protocol.specs.Calls.{deliver_call, received_stations, received
 
 use crate::buffers::Buffers;
 use crate::cells::store;
+use crate::rows::{held_cell, letter_cell};
 use crate::shed::Shed;
 use frames::pool::{frame_at, take_out};
 use protocol::refusal::Refusal;
@@ -24,11 +25,11 @@ impl Shed {
         match fate {
             Fate::Late | Fate::Again => {}
             Fate::Taken => {
-                store(letters, self.cell(receiver, sender), letter);
+                store(letters, letter_cell(self.count, receiver, sender), letter);
                 self.table.hear(receiver, sender);
             }
             Fate::Early => {
-                store(letters, self.cell(receiver, self.count), letter);
+                store(letters, held_cell(self.count, receiver), letter);
                 self.table.hold(receiver, Held { sender, round });
             }
         }

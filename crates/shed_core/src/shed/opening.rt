@@ -4,6 +4,7 @@ ghost use Rattle.shed_core.specs.Of.{world_of, ComesTo, StillLent, IsNew};
 ghost use Rattle.protocol.specs.Calls.{open_refusal, open_call};
 
 use crate::buffers::Buffers;
+use crate::rows::letter_cells;
 use crate::shed::Shed;
 use crate::table::Table;
 use frames::pool::clear;
@@ -52,7 +53,7 @@ impl Shed {
         if pool == 0 || pool > MAX_POOL || buffers.book.len() > MAX_BOOK {
             return Err(Refusal::BufferSize);
         }
-        if buffers.states.len() < n || buffers.letters.len() < n * (n + 1) {
+        if buffers.states.len() < n || buffers.letters.len() < letter_cells(n) {
             return Err(Refusal::BufferMismatch);
         }
         Ok(())

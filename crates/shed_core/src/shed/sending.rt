@@ -2,10 +2,12 @@
 ghost use Rattle.std.specs.Prelude.{◌≡◌, ◌<◌, ◌≤◌, get_or, IfSome, slice_index_or, slice_set};
 ghost use Rattle.protocol.specs.World.{blank};
 ghost use Rattle.shed_core.specs.Of.{world_of, ComesTo, StillLent, SameCounts};
-ghost use Rattle.protocol.specs.Calls.{frames_from, send_call, cell, copied, due, listened, taken_in};
+ghost use Rattle.protocol.specs.Calls.{frames_from, send_call, copied, listened, taken_in};
+ghost use Rattle.protocol.specs.Records.{due};
 
 use crate::buffers::Buffers;
 use crate::cells::store;
+use crate::rows::{held_cell, letter_cell};
 use crate::shed::Shed;
 use arrayvec::ArrayVec;
 use frames::frame::pack_frame;
@@ -23,16 +25,7 @@ fn copy_letter<L: Copy>(letters: &mut [L], from: usize, to: usize)
     }
 }
 
-// A shed and one of its stations are no struct, which each call would make anew: what follows asks for a station below n.
 impl Shed {
-    // The cell of the letter that station p has from q, or, with q = n, of the letter that it holds.
-    pub(super) fn cell(&self, p: usize, q: usize) -> usize
-        requires { (p < self.now.count) × (q ≤ self.now.count) }
-        ensures { result ≡ cell self.now.count p q }
-    {
-        p * (self.count + 1) + q
-    }
-
     // The frames of the letters that station p writes in a round, by rising receiver.
     fn gather<R: Rule>(&self, rule: &R, p: usize, round: u16, state: &R::State) -> ArrayVec<u64, 16>
         requires { (p < self.now.count) × (round ≤ 4095) }
@@ -74,8 +67,8 @@ impl Shed {
     {
         let mut station = self.table.record(p);
         if let Some(sender) = self.due_sender(p) {
-            let held = self.cell(p, self.count);
-            copy_letter(letters, held, self.cell(p, sender));
+            let held = held_cell(self.count, p);
+            copy_letter(letters, held, letter_cell(self.count, p, sender));
             station.heard[sender] = true;
             station.hold = None;
         }

@@ -5,6 +5,7 @@ ghost use Rattle.shed_core.specs.Of.{world_of, ComesTo, StillLent};
 ghost use Rattle.protocol.specs.Calls.{mail, turn_call};
 
 use crate::buffers::Buffers;
+use crate::rows::letter_cell;
 use crate::shed::Shed;
 use frames::book::pack_entry;
 use protocol::refusal::Refusal;
@@ -12,7 +13,6 @@ use protocol::types::Stand;
 use rules::Rule;
 use std::array;
 
-// No struct of a shed and a station, as in `sending`.
 impl Shed {
     // The letter that station p has from q, if it heard q.
     fn letter_from<L: Copy>(
@@ -26,7 +26,7 @@ impl Shed {
         ensures { result ≡ if nat_lt q self.now.count then mail self.now.count p heard.now letters.now q else None }
     {
         if q < self.count && heard[q] {
-            letters.get(self.cell(p, q)).copied()
+            letters.get(letter_cell(self.count, p, q)).copied()
         } else {
             None
         }

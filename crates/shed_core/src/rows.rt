@@ -1,0 +1,35 @@
+// The rows of letters: how many cells they have, and which is whose.
+ghost use Rattle.std.specs.Prelude.{◌≡◌, ◌<◌, ◌≤◌};
+ghost use Rattle.protocol.specs.Rows.{row_cells, letter_cells, letter_cell, held_cell};
+
+// How many cells the row of one of n stations has.
+fn row_cells(n: usize) -> usize
+    requires { n ≤ 16 }
+    ensures { result ≡ row_cells n }
+{
+    n + 1
+}
+
+// How many cells the letters of n stations ask for.
+pub fn letter_cells(n: usize) -> usize
+    requires { n ≤ 16 }
+    ensures { result ≡ letter_cells n }
+{
+    n * row_cells(n)
+}
+
+// The cell of the letter that station p, one of n, has from q.
+pub fn letter_cell(n: usize, p: usize, q: usize) -> usize
+    requires { (n ≤ 16) × (p < n) × (q < n) }
+    ensures { result ≡ letter_cell n p q }
+{
+    p * row_cells(n) + q
+}
+
+// The cell of the letter that station p, one of n, holds.
+pub fn held_cell(n: usize, p: usize) -> usize
+    requires { (n ≤ 16) × (p < n) }
+    ensures { result ≡ held_cell n p }
+{
+    p * row_cells(n) + n
+}
