@@ -1,4 +1,4 @@
-pub mod Places
+pub mod TakenOut
 pub mod Rows
 pub mod Outcomes
 pub mod Judgements

@@ -8,7 +8,7 @@ use Rattle.protocol.specs.declared.types.Step.TheVariants.{Drop, Repeat}
 use Rattle.protocol.specs.World.{World}
 use Rattle.protocol.specs.Calls.{step, taking_tests, repeat_tests, with_pool, without_frame}
 use Rattle.protocol.specs.Tally.{Tally, Slip, nowhere, swap_out, tally_accepted}
-use Rattle.protocol.proofs.Places.{length_out, origin}
+use Rattle.protocol.proofs.TakenOut.{length_out, origin}
 use Rattle.protocol.proofs.Change.{pool_changed}
 use Rattle.protocol.proofs.Invariant.{Inv, Matched, matched, Follows, attempted}
 use Rattle.protocol.proofs.Outcomes.{none_holds}

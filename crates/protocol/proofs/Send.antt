@@ -16,7 +16,7 @@ use Rattle.protocol.specs.Rows.{row_cells, letter_cells, letter_cell, held_cell}
 use Rattle.protocol.specs.Calls.{step, send_tests, with_pool, with_stations, with_letters, state_of, frames_from, frames_of, send_refusal, sent, listened, taken_in}
 use Rattle.protocol.specs.Tally.{Tally, Slip, heard_in, nowhere, slips_from, tally_accepted}
 use Rattle.lists.proofs.Tables.{get_or_put_below, get_or_put_in}
-use Rattle.protocol.proofs.Places.{nth_some}
+use Rattle.lists.proofs.Places.{something_at}
 use Rattle.protocol.proofs.Rows.{cell_within, cell_written, cell_kept}
 use Rattle.lists.proofs.Options.{none_some}
 use Rattle.protocol.proofs.Holds.{due_some, due_none}
@@ -155,7 +155,7 @@ module _ {S L : Type 0} (R : Behaviour S L) (values : List ℕ) (few : length va
       let b = a.holding x e in
       let hx : x.sender < row_cells w.n = omega (arith, b.sender) in
       let inside : x.sender < length old.heard = omega (arith, b.sender, a.places) in
-      let l = nth_some w.letters (held_cell w.n p) (omega (arith, letters, cell_within w.n p w.n (omega arith) (omega arith))) in
+      let l = something_at w.letters (held_cell w.n p) (omega (arith, letters, cell_within w.n p w.n (omega arith) (omega arith))) in
       let c : ℕ = letter_cell w.n p x.sender in
       subst (λ o. Inv R values B (with_letters R
       (with_stations R w (set w.stations p (record old { stand = Listening; heard = set old.heard x.sender true; hold = None })))
