@@ -1,6 +1,6 @@
 -- A new shed that is opened, and then carries out its steps.
-use Rattle.std.proofs.Common.{◌≡◌, ℕ, ◌^◌, ◌<◌, List, length, get_or, Ok, Err, Option, Result, sym, refl, ap, ◌∙◌, subst}
-use Rattle.rules.specs.Rule.{Behaviour, Interface, Laws}
+use Rattle.std.proofs.Common.{◌≡◌, ℕ, Bool, ◌^◌, ◌<◌, List, length, get_or, Ok, Err, Option, Result, sym, refl, ap, ◌∙◌, subst}
+use Rattle.rules.specs.Rule.{Behaviour, Interface, Laws, Ranges}
 use Rattle.lists.specs.Lists.{put}
 use Rattle.shed_core.specs.declared.shed.Shed.{Shed}
 use Rattle.shed_core.specs.declared.buffers.Buffers.{Buffers}
@@ -34,11 +34,11 @@ module _ {S L : Type 0} (R : Behaviour S L) (values : List ℕ) (steps : List St
 
   -- an accepted one begins the run
   pub carried_out :
-      Interface R → Laws R → ((p : ℕ) → p < length values → get_or values p 0 < 2 ^ 16) →
+      {letter_fits : L → Bool} → Interface R → Laws R letter_fits → Ranges R letter_fits → ((p : ℕ) → p < length values → get_or values p 0 < 2 ^ 16) →
       (y : ℕ) (t : Shed) (left : Buffers S L) (blank told : List (Option Refusal)) → r ≡ Ok y →
       world_of t left ≡ after R (world_of s b') steps → told ≡ put blank 0 (refusals R (world_of s b') steps) →
       CarriedOut R values steps (shut_with b) blank t left told
-  carried_out face laws small y t left blank told e ends tells =
+  carried_out {letter_fits} face laws ranges small y t left blank told e ends tells =
       let d = was_accepted (shut_with b) (opened R (shut_with b) values) (length values) (open_refusal R (shut_with b) values) y (sym e ∙ call.answers) in
       let first = opened R (shut_with b) values in
       let same : world_of s b' ≡ first = call.leaves ∙ d.2 in
@@ -46,5 +46,5 @@ module _ {S L : Type 0} (R : Behaviour S L) (values : List ℕ) (steps : List St
         opens = d.0;
         leaves = ends ∙ ap (λ w. after R w steps) same;
         tells = tells ∙ ap (λ w. put blank 0 (refusals R w steps)) same;
-        guaranteed = guaranteed R face laws (shut_with b) values small d.0 steps;
+        guaranteed = guaranteed R letter_fits face laws ranges (shut_with b) values small d.0 steps;
       }

@@ -1,5 +1,5 @@
 -- Frames survive their words, and readable words their frames.
-use Rattle.std.proofs.Common.{◌≡◌, ℕ, ◌+◌, ◌*◌, ◌/◌, ◌%◌, ◌^◌, ◌<◌, ◌≤◌, true, ◌&&◌, T, ltb, Some, None, Option, refl, ap, arith}
+use Rattle.std.proofs.Common.{◌≡◌, ℕ, ◌+◌, ◌*◌, ◌/◌, ◌%◌, ◌^◌, ◌<◌, ◌≤◌, Bool, true, ◌&&◌, T, ltb, Some, None, Option, refl, ap, arith}
 use Rattle.std.proofs.lemmas.Bool.{lt-ltb, ltb-true, and_parts}
 use Rattle.rules.specs.Rule.{Behaviour, Laws}
 use Rattle.lists.proofs.Options.{none_some, same_some, only}
@@ -27,9 +27,9 @@ read_below R n w f e =
     let p = read_from R n w f e in
     (omega (arith, ap (λ x. x.0) p.4, p.2), omega (arith, ap (λ x. x.1) p.4, p.3))
 
-module _ {S L : Type 0} (R : Behaviour S L) (laws : Laws R) where
+module _ {S L : Type 0} (R : Behaviour S L) {letter_fits : L → Bool} (laws : Laws R letter_fits) where
   pub reads_back :
-      (n s r k : ℕ) (l : L) → r ≤ 15 → s < n → r < n → k ≤ 4095 → T (R.letter_fits l) →
+      (n s r k : ℕ) (l : L) → r ≤ 15 → s < n → r < n → k ≤ 4095 → T (letter_fits l) →
       read_frame R n (pack_frame R (s, r, k, l)) ≡ Some (s, r, k, l)
   unfolding pack_frame read_frame
   reads_back n s r k l few hs hr hk fits =
@@ -42,7 +42,7 @@ module _ {S L : Type 0} (R : Behaviour S L) (laws : Laws R) where
       let e3 : w % 2 ^ 44 ≡ R.pack l = omega arith in
       rw (e0, e1, e2, e3, back, lt-ltb s n hs, lt-ltb r n hr)
 
-  pub packed_reads_back : (f : Frame L) (word : Option ℕ) → word ≡ packed_frame R f → ReadsBack R f word
+  pub packed_reads_back : (f : Frame L) (word : Option ℕ) → word ≡ packed_frame R f → ReadsBack R letter_fits f word
   packed_reads_back f word is n w e hs hr fits =
       let there = only (ltb f.0 16 && ltb f.1 16 && ltb f.2 4096) (Some (pack_frame R f)) w (cc) in
       let same : pack_frame R f ≡ w = same_some there.1 in

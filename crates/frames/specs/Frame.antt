@@ -30,8 +30,8 @@ abbrev pub readable : {S L : Type 0} → Behaviour S L → ℕ → ℕ → Bool
 readable R n w = nat_lt (w / 2 ^ 60) n && nat_lt ((w / 2 ^ 56) % 16) n && is_some (R.unpack (w % 2 ^ 44))
 
 -- a frame survives its word: where both stations are below n and the letter is within its ranges, the word reads as it
-abbrev pub ReadsBack : {S L : Type 0} → Behaviour S L → Frame L → Option ℕ → Type 0
-ReadsBack R f word = (n w : ℕ) → word ≡ Some w → f.0 < n → f.1 < n → T (R.letter_fits f.3) → read_frame R n w ≡ Some f
+abbrev pub ReadsBack : {S L : Type 0} → Behaviour S L → (letter_fits : L → Bool) → Frame L → Option ℕ → Type 0
+ReadsBack R letter_fits f word = (n w : ℕ) → word ≡ Some w → f.0 < n → f.1 < n → T (letter_fits f.3) → read_frame R n w ≡ Some f
 
 -- a word survives its frame: what it reads as has both stations below n, and is packed into that word
 abbrev pub PacksAgain : {S L : Type 0} → Behaviour S L → ℕ → ℕ → Option (Frame L) → Type 0

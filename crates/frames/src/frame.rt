@@ -16,7 +16,7 @@ pub fn pack_frame<R: Rule>(
     letter: &R::Letter,
 ) -> Option<u64>
     ensures word { result ≡ packed_frame (R.Rule.behaviour rule.now) (sender, receiver, round, letter.now) }
-    ensures reads_back { ReadsBack (R.Rule.behaviour rule.now) (sender, receiver, round, letter.now) result }
+    ensures reads_back { ReadsBack (R.Rule.behaviour rule.now) R.Rule.letter_fits (sender, receiver, round, letter.now) result }
 {
     if sender >= STATIONS || receiver >= STATIONS || round >= ROUNDS {
         return None;

@@ -157,9 +157,11 @@ last = record {
   hull = λ s. s.hull;
   pack = pack_letter;
   unpack = unpack_letter;
-  state_fits = λ s. nat_lt s.value (2 ^ 16) && nat_lt s.vote (2 ^ 16);
-  letter_fits = λ l. nat_lt l.value (2 ^ 16) && nat_le l.stamp 1024;
 }
+
+-- the letters whose numbers are within their ranges
+abbrev pub letter_fits : Letter → Bool
+letter_fits l = nat_lt l.value (2 ^ 16) && nat_le l.stamp 1024
 
 -- what a coordinator that collects votes for: the latest letter of its mailbox, if it hears more than half
 abbrev pub VotesForLatest : (n station round : ℕ) → (before : State) → Mailbox → (after : State) → Type 0

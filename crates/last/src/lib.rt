@@ -3,8 +3,8 @@
 #![tactic(auto)]
 
 ghost use Rattle.std.specs.Prelude.{◌≡◌, ◌*◌, ◌^◌, ◌<◌, ◌≤◌, Some, nat_lt, refl};
-ghost use Rattle.last.specs.Last.{last, stamped, counted, phase, coordinator, heard, later, latest, VotesForLatest, collect, adopt, acknowledge, decide};
-ghost use Rattle.last.specs.Laws.{last_interface, last_laws};
+ghost use Rattle.last.specs.Last.{last, letter_fits, stamped, counted, phase, coordinator, heard, later, latest, VotesForLatest, collect, adopt, acknowledge, decide};
+ghost use Rattle.last.specs.Laws.{last_interface, last_laws, last_ranges};
 ghost use Rattle.std.proofs.Common.{rules};
 
 use rules::{Rule, count_letters, is_outside};
@@ -159,13 +159,17 @@ impl Rule for Last {
 
     ghost behaviour = { λ _. last };
 
-    ghost room = { Prim.search rules };
+    ghost letter_fits = { letter_fits };
 
     ghost most = { λ rule. refl };
 
     ghost interface = { λ rule. last_interface };
 
     ghost laws = { λ rule. last_laws };
+
+    ghost ranges = { λ rule. last_ranges };
+
+    ghost room = { Prim.search rules };
 
     fn first(&self, _n: usize, _station: usize, value: u16) -> State {
         State {

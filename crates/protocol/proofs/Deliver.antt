@@ -4,7 +4,7 @@ use mathlib.Core.Path.{fun_ext}
 use Rattle.std.specs.Result.{result_err}
 use Rattle.std.proofs.lemmas.List.{length-set, get_or-set_same, get_or-set_other}
 use Rattle.std.proofs.lemmas.Bool.{leb-false, cases_eq, ltb-false, eqb-true, eq-eqb, ne_eqb, le-ltb, false≢true, and_parts, not-true, or_left, or_right, and_from}
-use Rattle.rules.specs.Rule.{Behaviour, Interface, Laws, lockstep}
+use Rattle.rules.specs.Rule.{Behaviour, Laws, Ranges, lockstep}
 use Rattle.frames.specs.Frame.{Frame}
 use Rattle.protocol.specs.declared.types.StationRecord.{StationRecord}
 use Rattle.protocol.specs.declared.types.Fate.{Fate}
@@ -160,7 +160,7 @@ module _ {S L : Type 0} (R : Behaviour S L) (values : List ℕ) (B : ℕ) (w : W
   met Taken h = taken h.0 h.1
   met Early h = early h.0 h.1
 
-module _ {S L : Type 0} (R : Behaviour S L) (face : Interface R) (laws : Laws R) (values : List ℕ) (small : (p : ℕ) → p < length values → get_or values p 0 < 2 ^ 16)
+module _ {S L : Type 0} (R : Behaviour S L) {letter_fits : L → Bool} (laws : Laws R letter_fits) (ranges : Ranges R letter_fits) (values : List ℕ) (small : (p : ℕ) → p < length values → get_or values p 0 < 2 ^ 16)
     (few : length values ≤ 16) (B : ℕ) (w : World S L) (t : Tally) (i : Inv R values B w t) (k : ℕ) where
   abbrev s : Slip
   s = get_or t.slips k nowhere
@@ -177,9 +177,9 @@ module _ {S L : Type 0} (R : Behaviour S L) (face : Interface R) (laws : Laws R)
       let c = carry h in
       let b = c.brought in
       let n_is : w.n ≡ length values = i.n_is in
-      let fits : T (R.letter_fits c.letter) =
-      face.sent_fits (length values) s.sender s.round s.receiver (lockstep R values (heard_in t.triples) s.round s.sender) c.letter
-      (run_fits R values face small (heard_in t.triples) s.round s.sender b.sender) (sym b.same) in
+      let fits : T (letter_fits c.letter) =
+      ranges.sent_fits (length values) s.sender s.round s.receiver (lockstep R values (heard_in t.triples) s.round s.sender) c.letter
+      (run_fits R values ranges small (heard_in t.triples) s.round s.sender b.sender) (sym b.same) in
       rw c.word_is (reads_back R laws w.n s.sender s.receiver s.round c.letter (omega arith) (omega (arith, b.sender)) (omega (arith, c.to))
       (omega (arith, b.begun, (i.seats s.sender b.sender).limit)) fits)
 

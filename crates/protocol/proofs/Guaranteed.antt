@@ -1,9 +1,9 @@
 -- The guarantee, from the invariant after every list of calls.
-use Rattle.std.proofs.Common.{◌≡◌, ℕ, ◌+◌, ◌-◌, ◌^◌, ◌<◌, ◌≤◌, cond, eqb, List, [], ◌∷◌, ◌++◌, length, get_or, Some, None, Option, sym, refl, ap, ◌∙◌, inl, inr, arith}
+use Rattle.std.proofs.Common.{◌≡◌, ℕ, ◌+◌, ◌-◌, ◌^◌, ◌<◌, ◌≤◌, Bool, cond, eqb, List, [], ◌∷◌, ◌++◌, length, get_or, Some, None, Option, sym, refl, ap, ◌∙◌, inl, inr, arith}
 use mathlib.Core.Path.{fun_ext}
 use Rattle.std.proofs.lemmas.List.{length-replicate}
 use Rattle.std.proofs.lemmas.Bool.{cases_eq, eq-eqb, ne_eqb}
-use Rattle.rules.specs.Rule.{Behaviour, Interface, Laws, Heard, Opening, lockstep}
+use Rattle.rules.specs.Rule.{Behaviour, Laws, Ranges, Heard, Opening, lockstep}
 use Rattle.frames.specs.Book.{book_heard}
 use Rattle.protocol.specs.declared.refusal.Refusal.{Refusal}
 use Rattle.protocol.specs.declared.types.Step.{Step}
@@ -64,11 +64,11 @@ module _ {S L : Type 0} (R : Behaviour S L) (values : List ℕ) where
   after_append w [] ds = refl
   after_append w (c ∷ cs) ds = after_append (step R w c).1 cs ds
 
-module _ {S L : Type 0} (R : Behaviour S L) (face : Interface R) (laws : Laws R) (values : List ℕ) (small : (p : ℕ) → p < length values → get_or values p 0 < 2 ^ 16)
+module _ {S L : Type 0} (R : Behaviour S L) {letter_fits : L → Bool} (laws : Laws R letter_fits) (ranges : Ranges R letter_fits) (values : List ℕ) (small : (p : ℕ) → p < length values → get_or values p 0 < 2 ^ 16)
     (few : length values ≤ 16) (B : ℕ) where
   follow : (w : World S L) (t : Tally) → Inv R values B w t → (c : Step) → Follows R values B (step R w c).0 (step R w c).1 t (tally_accepted R values t c)
   follow w t i (Send p) = sends R values few B w t i p
-  follow w t i (Deliver k) = delivered R face laws values small few B w t i k
+  follow w t i (Deliver k) = delivered R laws ranges values small few B w t i k
   follow w t i (Drop k) = dropped R values B w t i k
   follow w t i (Repeat k) = repeated R values B w t i k
   follow w t i (Turn p) = turns R values B w t i p
@@ -93,7 +93,7 @@ module _ {S L : Type 0} (R : Behaviour S L) (face : Interface R) (laws : Laws R)
   run (c ∷ cs) w t i = one t c cs i.known (step R w c).0 (step R w c).1 (follow w t i c) (run cs (step R w c).1)
 
 pub guaranteed : {S L : Type 0} (R : Behaviour S L) → Guaranteed R
-guaranteed {S} {L} R face laws new values small fine calls =
+guaranteed {S} {L} R letter_fits face laws ranges new values small fine calls =
     let o : Opens R new values = opens R face new values fine in
     let few : length values ≤ 16 = omega (arith, o.few, face.most_few) in
     let B : ℕ = length new.book in
@@ -101,7 +101,7 @@ guaranteed {S} {L} R face laws new values small fine calls =
     let opening : Opening R values = record { some = o.some; not_too_many = o.few; small = small } in
     let v : World S L = after R w calls in
     let u : Tally = tally R values start calls (refusals R w calls) in
-    let i : Inv R values B v u = (run R face laws values small few B calls w start (started R face new values fine)).0 in
+    let i : Inv R values B v u = (run R laws ranges values small few B calls w start (started R face new values fine)).0 in
     let H : Heard = heard_in u.triples in
     let state : (p : ℕ) → p < length values → state_of R v p ≡ lockstep R values H (u.rounds p) p = λ p h. (i.seats p h).state in
     let hull : (p x : ℕ) → p < length values → R.hull (state_of R v p) ≡ Some x → R.hull (lockstep R values H (u.rounds p) p) ≡ Some x = λ p x h e. sym (ap R.hull (state p h)) ∙ e in
@@ -116,7 +116,7 @@ guaranteed {S} {L} R face laws new values small fine calls =
       agreed = λ p q a b hp hq ea eb. laws.agreement values opening H p q (u.rounds p) (u.rounds q) a b hp hq (hull p a hp ea) (hull q b hq eb);
       valid = λ p h hp e. laws.validity values opening H p (u.rounds p) h hp (hull p h hp e);
       kept = λ p h more hp e.
-          let r = run R face laws values small few B more v u i in
+          let r = run R laws ranges values small few B more v u i in
           let t : Tally = tally R values u more (refusals R v more) in
           let g = r.1 (u.rounds p) p (omega arith) in
           let before : R.hull (lockstep R values (heard_in t.triples) (u.rounds p) p) ≡ Some h = rw g.1 (hull p h hp e) in

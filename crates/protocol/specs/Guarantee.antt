@@ -1,6 +1,6 @@
 -- What is found after every list of a planner's calls, for every rule that keeps its laws.
 use Rattle.std.specs.Prelude.{◌≡◌, ℕ, ◌+◌, ◌-◌, ◌^◌, ◌<◌, ◌≤◌, Bool, false, cond, List, [], ◌∷◌, ◌++◌, map, length, replicate, Some, None, Option, ◌==◌, slice_index}
-use Rattle.rules.specs.Rule.{Behaviour, Interface, Laws, lockstep}
+use Rattle.rules.specs.Rule.{Behaviour, Interface, Laws, Ranges, lockstep}
 use Rattle.protocol.specs.declared.refusal.Refusal.{Refusal}
 use Rattle.protocol.specs.declared.types.Step.{Step}
 use Rattle.protocol.specs.declared.types.Step.TheVariants.{Send, Deliver, Drop, Repeat, Turn, Crash}
@@ -64,6 +64,6 @@ module _ {S L : Type 0} (R : Behaviour S L) (values : List ℕ) (w : World S L) 
 -- the guarantee, whole: for every new shed and buffers that open accepts, and every list of calls
 abbrev pub Guaranteed : {S L : Type 0} → Behaviour S L → Type 0
 Guaranteed {S} {L} R =
-    Interface R → Laws R → (new : World S L) (values : List ℕ) →
+    (letter_fits : L → Bool) → Interface R → Laws R letter_fits → Ranges R letter_fits → (new : World S L) (values : List ℕ) →
     ((p : ℕ) → p < length values → slice_index values p < 2 ^ 16) →
     open_refusal R new values ≡ None → (calls : List Step) → Guarantee R values (opened R new values) calls

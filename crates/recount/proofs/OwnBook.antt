@@ -1,12 +1,12 @@
 -- Recount over a shed's own book gives the states of its stations.
-use Rattle.std.proofs.Common.{◌≡◌, ℕ, ◌+◌, ◌-◌, ◌^◌, ◌<◌, ◌≤◌, ltb, List, ◌++◌, map, length, get_or, take, replicate, None, Ok, Result, sym, ap, ◌∙◌, inl, inr, arith}
+use Rattle.std.proofs.Common.{◌≡◌, ℕ, ◌+◌, ◌-◌, ◌^◌, ◌<◌, ◌≤◌, Bool, ltb, List, ◌++◌, map, length, get_or, take, replicate, None, Ok, Result, sym, ap, ◌∙◌, inl, inr, arith}
 use mathlib.Core.Path.{fun_ext}
 use lib.ListN.{length-replicate}
 use lib.Seq.{take-append-add}
 use Rattle.std.proofs.lemmas.List.{take-replicate, take_all, length-map}
 use Rattle.std.proofs.lemmas.Bool.{cases_lt}
 use Rattle.std.proofs.lemmas.Bool.Decides.{nat_tests}
-use Rattle.rules.specs.Rule.{Behaviour, Interface, Laws, Heard, lockstep}
+use Rattle.rules.specs.Rule.{Behaviour, Interface, Laws, Ranges, Heard, lockstep}
 use Rattle.lists.proofs.Tables.{get_or_written}
 use Rattle.frames.specs.Book.{book_heard}
 use Rattle.frames.proofs.Sets.{zeros_after}
@@ -40,14 +40,14 @@ accepts : (most n shortest round : ℕ) → 1 ≤ n → n ≤ most → n ≤ sho
 accepts most n shortest round a b c d = grind (arith, nat_tests)
 
 pub agrees :
-    {S L : Type 0} (R : Behaviour S L) → Interface R → Laws R → (values : List ℕ) → ((p : ℕ) → p < length values → get_or values p 0 < 2 ^ 16) →
+    {S L : Type 0} (R : Behaviour S L) {letter_fits : L → Bool} → Interface R → Laws R letter_fits → Ranges R letter_fits → (values : List ℕ) → ((p : ℕ) → p < length values → get_or values p 0 < 2 ^ 16) →
     (words : List ℕ) (round : ℕ) (b : Buffers S L) (answer : Result ℕ Refusal) (cells : List S) →
     (answer, cells) ≡ recount_call R values words round b → Agrees R values words round b answer cells
 unfolding Agrees
-agrees {S} {L} R face laws values small words round b answer cells call fresh calls p fine h own at long =
+agrees {S} {L} R {letter_fits} face laws ranges values small words round b answer cells call fresh calls p fine h own at long =
     let w : World S L = after R (opened R fresh values) calls in
     let ts : List Triple = (tally R values start calls (refusals R (opened R fresh values) calls)).triples in
-    let g : Guarantee R values (opened R fresh values) calls = guaranteed R face laws fresh values small fine calls in
+    let g : Guarantee R values (opened R fresh values) calls = guaranteed R letter_fits face laws ranges fresh values small fine calls in
     let o : Opens R fresh values = opens R face fresh values fine in
     let limit : round ≤ 4095 = omega (arith, at, g.limited p h) in
     let go : run_refusal R.most (length values) (shortest b) (ltb 4095 round) ≡ None = accepts R.most (length values) (shortest b) round o.some o.few long limit in

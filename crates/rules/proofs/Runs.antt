@@ -1,7 +1,7 @@
 -- The lockstep run: what it depends on, that its states and letters stay within their ranges, and that hulls stay.
 use Rattle.std.proofs.Common.{◌≡◌, ℕ, zero, suc, ◌^◌, ◌<◌, ◌≤◌, Bool, true, T, List, length, get_or, Some, refl, ap, ◌∙◌, subst, inl, inr, arith}
 use Rattle.std.proofs.lemmas.Bool.{cases_eq, cases_Bool}
-use Rattle.rules.specs.Rule.{Behaviour, Interface, Stable, Heard, MailFits, letter_heard, mailbox, next_state, lockstep}
+use Rattle.rules.specs.Rule.{Behaviour, Ranges, Stable, Heard, MailFits, letter_heard, mailbox, next_state, lockstep}
 use Rattle.lists.proofs.Options.{only}
 use Rattle.lists.proofs.Tables.{tabulate_same, at_tabulate}
 
@@ -33,21 +33,21 @@ module _ {S L : Type 0} (R : Behaviour S L) (values : List ℕ) where
 
   -- the letters that a station hears are within their ranges if their senders' states are
   mail_fits :
-      Interface R → (H : Heard) (k p : ℕ) → ((q : ℕ) → q < length values → T (R.state_fits (lockstep R values H k q))) →
-      MailFits R.letter_fits (mailbox R (length values) p k (H p k) (lockstep R values H k))
-  mail_fits face H k p fits q l e =
+      {fits : L → Bool} (ranges : Ranges R fits) (H : Heard) (k p : ℕ) → ((q : ℕ) → q < length values → T (ranges.state_fits (lockstep R values H k q))) →
+      MailFits fits (mailbox R (length values) p k (H p k) (lockstep R values H k))
+  mail_fits ranges H k p fits q l e =
       let at = at_tabulate (length values) (letter_heard R (length values) p k (H p k) (lockstep R values H k)) q l e in
-      face.sent_fits (length values) q k p (lockstep R values H k q) l (fits q at.0) (only (H p k q) _ l at.1).1
+      ranges.sent_fits (length values) q k p (lockstep R values H k q) l (fits q at.0) (only (H p k q) _ l at.1).1
 
   -- every state of a run is within its ranges
   pub run_fits :
-      Interface R → ((p : ℕ) → p < length values → get_or values p 0 < 2 ^ 16) → (H : Heard) (k p : ℕ) → p < length values →
-      T (R.state_fits (lockstep R values H k p))
+      {fits : L → Bool} (ranges : Ranges R fits) → ((p : ℕ) → p < length values → get_or values p 0 < 2 ^ 16) → (H : Heard) (k p : ℕ) → p < length values →
+      T (ranges.state_fits (lockstep R values H k p))
   unfolding lockstep
-  run_fits face small H zero p h = face.first_fits (length values) p (get_or values p 0) (small p h)
-  run_fits face small H (suc k) p h =
-      face.next_fits (length values) p k (lockstep R values H k p) (mailbox R (length values) p k (H p k) (lockstep R values H k)) (run_fits face small H k p h)
-      (mail_fits face H k p (run_fits face small H k))
+  run_fits ranges small H zero p h = ranges.first_fits (length values) p (get_or values p 0) (small p h)
+  run_fits ranges small H (suc k) p h =
+      ranges.next_fits (length values) p k (lockstep R values H k p) (mailbox R (length values) p k (H p k) (lockstep R values H k)) (run_fits ranges small H k p h)
+      (mail_fits ranges H k p (run_fits ranges small H k))
 
   -- a hull that is shown in a round is shown in every later one
   pub hull_stays :

@@ -25,29 +25,21 @@ pub record Behaviour (S L : Type 0) : Type 0 where
   -- a letter's packed number, and a number's letter or none
   pub pack : L → ℕ
   pub unpack : ℕ → Option L
-  -- the ranges within which a state's and a letter's numbers stand for themselves
-  pub state_fits : S → Bool
-  pub letter_fits : L → Bool
 
 -- no call speaks of such a station: there are none or too many, none has that number, or the round is past the last
 abbrev pub outside : (most n station round : ℕ) → Bool
 outside most n station round = n == 0 || nat_lt most n || nat_le n station || nat_lt 4095 round
 
--- each letter of a mailbox is within its ranges
-abbrev pub MailFits : {L : Type 0} → (L → Bool) → List (Option L) → Type 0
-MailFits {L} fits mailbox = (q : ℕ) (l : L) → slice_index_or mailbox q None ≡ Some l → T (fits l)
-
--- what a caller may rely on whatever it asks: a call that speaks of no station gives no letter and keeps the state, and
--- what starts within its ranges stays there
+-- what a caller may rely on, whatever it asks
 pub record Interface {S L : Type 0} (R : Behaviour S L) : Type 0 where
+  -- there are 1 to 16 stations
   pub most_some : 1 ≤ R.most
   pub most_few : R.most ≤ 16
-  pub no_letter : (n p k q : ℕ) (s : S) → T (outside R.most n p k || nat_le n q) → R.letter n p k s q ≡ None
-  pub stays : (n p k : ℕ) (s : S) (m : List (Option L)) → T (outside R.most n p k) → R.next n p k s m ≡ s
-  pub stays_misfit : (n p k : ℕ) (s : S) (m : List (Option L)) → (length m ≢ n) → R.next n p k s m ≡ s
-  pub first_fits : (n p v : ℕ) → v < 2 ^ 16 → T (R.state_fits (R.first n p v))
-  pub sent_fits : (n p k q : ℕ) (s : S) (l : L) → T (R.state_fits s) → R.letter n p k s q ≡ Some l → T (R.letter_fits l)
-  pub next_fits : (n p k : ℕ) (s : S) (m : List (Option L)) → T (R.state_fits s) → MailFits R.letter_fits m → T (R.state_fits (R.next n p k s m))
+  -- there is no letter where a call speaks of no sender or of no receiver
+  pub no_letter : (n sender round receiver : ℕ) (s : S) → T (outside R.most n sender round || nat_le n receiver) → R.letter n sender round s receiver ≡ None
+  -- the state stays where a call speaks of no station, or where the mailbox has not a place for each station
+  pub stays : (n station round : ℕ) (s : S) (mailbox : List (Option L)) → T (outside R.most n station round) → R.next n station round s mailbox ≡ s
+  pub stays_misfit : (n station round : ℕ) (s : S) (mailbox : List (Option L)) → (length mailbox ≢ n) → R.next n station round s mailbox ≡ s
 
 -- ---- the lockstep run
 -- whom a station heard in a round: station, round, sender
@@ -80,10 +72,10 @@ pub record Opening {S L : Type 0} (R : Behaviour S L) (values : List ℕ) : Type
   pub not_too_many : length values ≤ R.most
   pub small : (p : ℕ) → p < length values → slice_index values p < 2 ^ 16
 
--- a letter survives its packed number, and a packed number its letter
-pub record Codec {S L : Type 0} (R : Behaviour S L) : Type 0 where
-  pub small : (l : L) → T (R.letter_fits l) → R.pack l < 2 ^ 44
-  pub back : (l : L) → T (R.letter_fits l) → R.unpack (R.pack l) ≡ Some l
+-- a letter within its ranges survives its packed number, and a packed number its letter
+pub record Codec {S L : Type 0} (R : Behaviour S L) (letter_fits : L → Bool) : Type 0 where
+  pub small : (l : L) → T (letter_fits l) → R.pack l < 2 ^ 44
+  pub back : (l : L) → T (letter_fits l) → R.unpack (R.pack l) ≡ Some l
   pub again : (w : ℕ) (l : L) → R.unpack w ≡ Some l → R.pack l ≡ w
 
 -- a hull once shown is shown by the next state, whatever the mailbox
@@ -103,8 +95,23 @@ Validity R =
     (values : List ℕ) → Opening R values → (H : Heard) (p i h : ℕ) → p < length values →
     R.hull (lockstep R values H i p) ≡ Some h → (q : ℕ) × (q < length values) × (slice_index values q ≡ h)
 
-pub record Laws {S L : Type 0} (R : Behaviour S L) : Type 0 where
-  pub codec : Codec R
+pub record Laws {S L : Type 0} (R : Behaviour S L) (letter_fits : L → Bool) : Type 0 where
+  pub codec : Codec R letter_fits
   pub stable : Stable R
   pub agreement : Agreement R
   pub validity : Validity R
+
+-- ---- ranges
+-- A behaviour is of whole numbers, and a number in a cell has an end. The codec's law is asked of the letters that the
+-- cells can hold, so it says of a letter that travels what it has to, if each letter that is written is one of those.
+abbrev pub MailFits : {L : Type 0} → (L → Bool) → List (Option L) → Type 0
+MailFits {L} fits mailbox = (q : ℕ) (l : L) → slice_index_or mailbox q None ≡ Some l → T (fits l)
+
+pub record Ranges {S L : Type 0} (R : Behaviour S L) (letter_fits : L → Bool) : Type 0 where
+  -- the states that the cells can hold
+  pub state_fits : S → Bool
+  -- a first state from an opening value is one of them, what such a state writes is within its ranges, and the next state
+  -- is such a state again
+  pub first_fits : (n p v : ℕ) → v < 2 ^ 16 → T (state_fits (R.first n p v))
+  pub sent_fits : (n p k q : ℕ) (s : S) (l : L) → T (state_fits s) → R.letter n p k s q ≡ Some l → T (letter_fits l)
+  pub next_fits : (n p k : ℕ) (s : S) (m : List (Option L)) → T (state_fits s) → MailFits letter_fits m → T (state_fits (R.next n p k s m))

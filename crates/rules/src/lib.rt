@@ -1,9 +1,9 @@
 // What every voting rule offers and shows.
 #![tactic(auto)]
 
-ghost use Rattle.std.specs.Prelude.{◌≡◌, ℕ, ◌^◌, ◌<◌, ◌≤◌, length, is_some, count_by, slice_index};
+ghost use Rattle.std.specs.Prelude.{◌≡◌, ℕ, ◌^◌, ◌<◌, ◌≤◌, Bool, length, is_some, count_by, slice_index};
 ghost use Rattle.lists.specs.Lists.{tabulate, put};
-ghost use Rattle.rules.specs.Rule.{Behaviour, Interface, Laws, MailboxRoom, outside};
+ghost use Rattle.rules.specs.Rule.{Behaviour, Interface, Laws, MailboxRoom, Ranges, outside};
 
 // The last round that a station can be in.
 pub const LAST_ROUND: u16 = 4095;
@@ -25,6 +25,9 @@ pub trait Rule {
     ghost MAX_STATIONS: { ℕ };
 
     ghost behaviour: { Self → Behaviour Self.State Self.Letter };
+
+    // the letters whose numbers are within their ranges
+    ghost letter_fits: { Self.Letter → Bool };
 
     // A station's first state, from its opening value.
     fn first(&self, n: usize, station: usize, value: u16) -> Self::State
@@ -65,15 +68,18 @@ pub trait Rule {
     fn unpack(&self, word: u64) -> Option<Self::Letter>
         ensures { result ≡ (behaviour self.now).unpack word };
 
-    // sixteen places, each with a letter or nothing, fit in memory
-    ghost room: { MailboxRoom Self.Letter.row };
-
     // the constant is the behaviour's most
     ghost most: { (rule : Self) → (behaviour rule).most ≡ MAX_STATIONS };
 
     ghost interface: { (rule : Self) → Interface (behaviour rule) };
 
-    ghost laws: { (rule : Self) → Laws (behaviour rule) };
+    ghost laws: { (rule : Self) → Laws (behaviour rule) letter_fits };
+
+    // what is written is within its ranges
+    ghost ranges: { (rule : Self) → Ranges (behaviour rule) letter_fits };
+
+    // a mailbox of sixteen places fits in memory
+    ghost room: { MailboxRoom Self.Letter.row };
 }
 
 // Writes each station's first state from its opening value, as far as there are cells.

@@ -3,10 +3,10 @@ use Rattle.std.specs.Prelude.{◌≡◌, ℕ, ◌*◌, ◌^◌, ◌<◌, Bool, t
 use Rattle.std.proofs.Common.{ap, subst, arith, ltb→lt, lt→ltb}
 use Rattle.std.proofs.lemmas.Bool.{false≢true, ltb-true, eqb-true, ne_eqb, cond_both, cond-true, or_left, or_right, not_from_false}
 use Rattle.std.proofs.lemmas.Bool.Decides.{nat_tests}
-use Rattle.rules.specs.Rule.{Interface, Laws, Codec, Stable, outside}
+use Rattle.rules.specs.Rule.{Interface, Laws, Codec, Ranges, Stable, outside}
 use Rattle.third.specs.declared.Letter.{Letter}
 use Rattle.third.specs.declared.State.{State}
-use Rattle.third.specs.Third.{third, says, heard, most_frequent}
+use Rattle.third.specs.Third.{third, letter_fits, says, heard, most_frequent}
 use Rattle.lists.proofs.Counting.{found_by}
 use Rattle.third.specs.Mailbox.{winner_heard}
 use Rattle.lists.proofs.Options.{holds, unless, same_some}
@@ -31,6 +31,11 @@ third_interface = record {
   no_letter = λ n p k q s t. cond-true _ _ _ (holds _ t);
   stays = λ n p k s m t. cond-true _ _ _ (or_left _ _ (holds _ t));
   stays_misfit = λ n p k s m h. cond-true _ _ _ (or_right _ _ (not_from_false _ (ne_eqb _ _ h)));
+}
+
+pub third_ranges : Ranges third letter_fits
+third_ranges = record {
+  state_fits = λ s. nat_lt s.value (2 ^ 16);
   first_fits = λ n p v h. lt→ltb v (2 ^ 16) h;
   sent_fits = λ n p k q s l t e. subst Fits16 (sent (outside 16 n p k || nat_le n q) s.value l e) t;
   next_fits = λ n p k s m t fits.
@@ -52,7 +57,7 @@ reads_back l small = grind (arith, nat_tests)
 packs_again : (w : ℕ) (l : Letter) → third.unpack w ≡ Some l → third.pack l ≡ w
 packs_again w l e = grind (arith, nat_tests)
 
-third_codec : Codec third
+third_codec : Codec third letter_fits
 third_codec = record {
   small = λ l t. omega (arith, ltb→lt l.value (2 ^ 16) t);
   back = λ l t. reads_back l (ltb→lt l.value (2 ^ 16) t);
@@ -62,5 +67,5 @@ third_codec = record {
 third_stable : Stable third
 third_stable n p k h s m e = let P : State → Type 0 = λ t. t.hull ≡ Some h in by_next P n p k s m e (rw e)
 
-pub third_laws : Laws third
+pub third_laws : Laws third letter_fits
 third_laws = record { codec = third_codec; stable = third_stable; agreement = third_agreement; validity = third_validity }

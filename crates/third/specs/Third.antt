@@ -70,9 +70,11 @@ third = record {
   hull = λ s. s.hull;
   pack = λ l. l.value * 2 ^ 28;
   unpack = λ w. cond (w % 2 ^ 28 == 0 && nat_lt (w / 2 ^ 28) (2 ^ 16)) (Some (record { value = w / 2 ^ 28 })) None;
-  state_fits = λ s. nat_lt s.value (2 ^ 16);
-  letter_fits = λ l. nat_lt l.value (2 ^ 16);
 }
+
+-- the letters whose numbers are within their ranges
+abbrev pub letter_fits : Letter → Bool
+letter_fits l = nat_lt l.value (2 ^ 16)
 
 -- ---- what a round does, without a word on how it is computed: s is the state before it and r the state after it
 pub record Moves (n : ℕ) (s : State) (m : Mailbox) (r : State) : Type 0 where

@@ -3,8 +3,8 @@
 
 ghost use Rattle.std.specs.Prelude.{◌≡◌, ◌*◌, ◌≤◌, false, length, nat_lt, refl};
 ghost use Rattle.rules.specs.Rule.{outside};
-ghost use Rattle.third.specs.Third.{third, occurs, before, most_frequent, Moves};
-ghost use Rattle.third.specs.Laws.{third_interface, third_laws};
+ghost use Rattle.third.specs.Third.{third, letter_fits, occurs, before, most_frequent, Moves};
+ghost use Rattle.third.specs.Laws.{third_interface, third_laws, third_ranges};
 ghost use Rattle.std.proofs.Common.{rules};
 
 use rules::{Rule, count_letters, is_outside};
@@ -92,13 +92,17 @@ impl Rule for Third {
 
     ghost behaviour = { λ _. third };
 
-    ghost room = { Prim.search rules };
+    ghost letter_fits = { letter_fits };
 
     ghost most = { λ rule. refl };
 
     ghost interface = { λ rule. third_interface };
 
     ghost laws = { λ rule. third_laws };
+
+    ghost ranges = { λ rule. third_ranges };
+
+    ghost room = { Prim.search rules };
 
     fn first(&self, _n: usize, _station: usize, value: u16) -> State {
         State { value, hull: None }

@@ -17,5 +17,5 @@ returns-clause-conducted g c =
     let ran = c.take_steps.new in
     let small : (p : ℕ) → p < length a.values.now → get_or a.values.now p 0 < 2 ^ 16 = λ p h. (c.type_inv.values p).fits in
     carried_out (g.R.Rule.behaviour rule) a.values.now a.steps.now c.new-shed.result c.open.new.self a.buffers.now c.open.new.buffers
-    c.new-shed.ensures c.open.result c.open.ensures.call (g.met.R.Rule.interface rule) (g.met.R.Rule.laws rule) small
+    c.new-shed.ensures c.open.result c.open.ensures.call (g.met.R.Rule.interface rule) (g.met.R.Rule.laws rule) (g.met.R.Rule.ranges rule) small
     c.in_ok-open.field-0 ran.shed ran.buffers a.outcomes.now ran.outcomes c.in_ok-open.was c.take_steps.ensures.leaves c.take_steps.ensures.tells
