@@ -2,6 +2,7 @@
 use Rattle.std.specs.Prelude.{◌≡◌, ℕ, zero, suc, ◌+◌, ◌*◌, ◌%◌, ◌<◌, ◌≤◌, List, length, Some, slice_index, refl}
 use Rattle.std.proofs.Common.{sym, subst, ◌∙◌, inl, inr, arith, add-one}
 use Rattle.std.proofs.lemmas.Bool.{cases_lt, false≢true}
+use Rattle.rules.specs.declared.TheConstants.{LAST_ROUND}
 use Rattle.rules.specs.Rule.{Opening, Heard, lockstep, Agreement, Validity}
 use Rattle.lists.proofs.Options.{none_some}
 use Rattle.rules.proofs.Runs.{hull_stays}
@@ -70,7 +71,7 @@ module _ (values : List ℕ) (opening : Opening last values) (H : Heard) where
 
   -- ---- all phases
   -- past the last round nothing changes
-  resting : (k : ℕ) → 4095 < k → run (suc k) ≡ run k
+  resting : (k : ℕ) → LAST_ROUND < k → run (suc k) ≡ run k
   resting k late = λ i p. rests values opening H k p late i
 
   -- a phase of later rounds

@@ -3,6 +3,7 @@ use Rattle.std.specs.Prelude.{◌≡◌, ℕ, suc, ◌+◌, ◌*◌, ◌%◌, �
 use Rattle.std.proofs.Math.Path.{refl}
 use Rattle.std.proofs.Common.{sym, subst, ◌∙◌, inl, inr, arith}
 use Rattle.std.proofs.lemmas.Bool.{cond_both, eqb-true, eq-eqb, ne_eqb, ltb-true, lt-ltb, le-ltb, lt-leb, or_from, or_left, or_right, cond-true}
+use Rattle.rules.specs.declared.TheConstants.{LAST_ROUND}
 use Rattle.rules.specs.Rule.{Opening, Heard, lockstep, letter_heard, mailbox, outside}
 use Rattle.lists.proofs.Options.{only}
 use Rattle.lists.proofs.Tables.{length_tabulate, get_or_tabulate, at_tabulate}
@@ -64,10 +65,10 @@ module _ (values : List ℕ) (opening : Opening last values) (H : Heard) where
   full : (k p : ℕ) → length (mail k p) ≡ n
   full k p = length_tabulate n _
 
-  accepted : (k p : ℕ) → p < n → k ≤ 4095 → outside 16 n p k ≡ false
+  accepted : (k p : ℕ) → p < n → k ≤ LAST_ROUND → outside 16 n p k ≡ false
   accepted k p h early =
       let some : 1 ≤ n = opening.some in
-      or_from _ _ (or_from _ _ (or_from _ _ (ne_eqb n 0 (λ z. omega arith)) (le-ltb 16 n opening.not_too_many)) (lt-leb n p h)) (le-ltb 4095 k early)
+      or_from _ _ (or_from _ _ (or_from _ _ (ne_eqb n 0 (λ z. omega arith)) (le-ltb 16 n opening.not_too_many)) (lt-leb n p h)) (le-ltb LAST_ROUND k early)
 
   -- a letter in a mailbox was written by its sender
   wrote : (k p q : ℕ) (l : Letter) → At (mail k p) q l → (q < n) × Sent n q k (run k q) l
@@ -107,7 +108,7 @@ module _ (values : List ℕ) (opening : Opening last values) (H : Heard) where
       } in
       rw w.3 (inr (mine, w.1.value, vote, refl))
 
-  pub collects : (k p : ℕ) → k ≤ 4095 → k % 4 ≡ 0 → p < n → Collects n (phase k) (run k) p (run (suc k) p)
+  pub collects : (k p : ℕ) → k ≤ LAST_ROUND → k % 4 ≡ 0 → p < n → Collects n (phase k) (run k) p (run (suc k) p)
   collects k p early step h =
       let P : State → Type 0 = Collects n (phase k) (run k) p in
       subst P (sym (next_is k p ∙ next_0 n p k (run k p) (mail k p) (accepted k p h early) (full k p) step))
@@ -116,7 +117,7 @@ module _ (values : List ℕ) (opening : Opening last values) (H : Heard) where
       (λ _. inl refl))
 
   -- step 1
-  pub adopts : (k p : ℕ) → k ≤ 4095 → k % 4 ≡ 1 → p < n → Adopts n (phase k) (run k) p (run (suc k) p)
+  pub adopts : (k p : ℕ) → k ≤ LAST_ROUND → k % 4 ≡ 1 → p < n → Adopts n (phase k) (run k) p (run (suc k) p)
   adopts k p early step h =
       subst (Adopts n (phase k) (run k) p) (sym (next_is k p ∙ next_1 n p k (run k p) (mail k p) (accepted k p h early) (full k p) step))
       (go (slice_index_or (mail k p) (coordinator n k) None) refl)
@@ -133,7 +134,7 @@ module _ (values : List ℕ) (opening : Opening last values) (H : Heard) where
       eq-eqb _ _ ((wrote k p q l.0 l.1).1.confirmed step)) in
       omega (arith, heard_is k p)
 
-  pub acknowledges : (k p : ℕ) → k ≤ 4095 → k % 4 ≡ 2 → p < n → Acknowledges n (phase k) (run k) p (run (suc k) p)
+  pub acknowledges : (k p : ℕ) → k ≤ LAST_ROUND → k % 4 ≡ 2 → p < n → Acknowledges n (phase k) (run k) p (run (suc k) p)
   acknowledges k p early step h =
       let P : State → Type 0 = Acknowledges n (phase k) (run k) p in
       subst P (sym (next_is k p ∙ next_2 n p k (run k p) (mail k p) (accepted k p h early) (full k p) step))
@@ -143,7 +144,7 @@ module _ (values : List ℕ) (opening : Opening last values) (H : Heard) where
       (λ _. inl refl))
 
   -- step 3
-  pub decides : (k p : ℕ) → k ≤ 4095 → k % 4 ≡ 3 → p < n → Decides n (phase k) (run k) p (run (suc k) p)
+  pub decides : (k p : ℕ) → k ≤ LAST_ROUND → k % 4 ≡ 3 → p < n → Decides n (phase k) (run k) p (run (suc k) p)
   decides k p early step h =
       subst (Decides n (phase k) (run k) p) (sym (next_is k p ∙ next_3 n p k (run k p) (mail k p) (accepted k p h early) (full k p) step))
       (hull_after (run k p).hull (slice_index_or (mail k p) (coordinator n k) None), way (run k p).hull (slice_index_or (mail k p) (coordinator n k) None) refl refl, refl)
@@ -155,5 +156,5 @@ module _ (values : List ℕ) (opening : Opening last values) (H : Heard) where
       way None (Some l) e i = let f = (wrote k p (coordinator n k) l i).1.announced step in inr (l.value, (f.0, sym f.1), refl)
 
   -- past the last round nothing happens
-  pub rests : (k p : ℕ) → 4095 < k → run (suc k) p ≡ run k p
-  rests k p late = next_is k p ∙ cond-true _ _ _ (or_left _ _ (or_right _ _ (lt-ltb 4095 k late)))
+  pub rests : (k p : ℕ) → LAST_ROUND < k → run (suc k) p ≡ run k p
+  rests k p late = next_is k p ∙ cond-true _ _ _ (or_left _ _ (or_right _ _ (lt-ltb LAST_ROUND k late)))

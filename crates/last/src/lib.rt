@@ -3,6 +3,7 @@
 #![tactic(auto)]
 
 ghost use Rattle.std.specs.Prelude.{◌≡◌, ◌*◌, ◌^◌, ◌<◌, ◌≤◌, Some, nat_lt, refl};
+ghost use Rattle.rules.specs.declared.TheConstants.{LAST_ROUND};
 ghost use Rattle.last.specs.Last.{last, letter_fits, stamped, counted, phase, coordinator, heard, later, latest, VotesForLatest, collect, adopt, acknowledge, decide};
 ghost use Rattle.last.specs.Laws.{last_interface, last_laws, last_ranges};
 ghost use Rattle.std.proofs.Common.{rules};
@@ -113,7 +114,7 @@ fn collected(n: usize, state: &State, mailbox: &[Option<Letter>]) -> State
 
 // Step 1: who hears the coordinator takes its vote, and the phase's stamp.
 fn adopted(round: u16, state: &State, proposal: Option<Letter>) -> State
-    requires { round ≤ 4095 }
+    requires { round ≤ LAST_ROUND }
     ensures { result ≡ adopt (phase round) proposal state.now }
 {
     match proposal {

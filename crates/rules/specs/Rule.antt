@@ -4,6 +4,7 @@ use Rattle.std.specs.Borrow.{Array, RattleType}
 use Rattle.std.specs.Mem.{FitsInMemory}
 use Rattle.std.specs.contracts.option.Option.{the_row as option}
 use Rattle.lists.specs.Lists.{tabulate}
+use Rattle.rules.specs.declared.TheConstants.{LAST_ROUND}
 
 -- a mailbox of sixteen places, each with such a letter or nothing, fits in memory
 abbrev pub MailboxRoom : RattleType → Type 0
@@ -28,7 +29,7 @@ pub record Behaviour (S L : Type 0) : Type 0 where
 
 -- no call speaks of such a station: there are none or too many, none has that number, or the round is past the last
 abbrev pub outside : (most n station round : ℕ) → Bool
-outside most n station round = n == 0 || nat_lt most n || nat_le n station || nat_lt 4095 round
+outside most n station round = n == 0 || nat_lt most n || nat_le n station || nat_lt LAST_ROUND round
 
 -- what a caller may rely on, whatever it asks
 pub record Interface {S L : Type 0} (R : Behaviour S L) : Type 0 where
