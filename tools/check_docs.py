@@ -235,6 +235,28 @@ def check_shown():
         wrong("README.md", 0, f"{program} is not shown as it is")
 
 
+def check_house():
+    """The map on the first page: each crate has one sentence, and stands above those that it uses."""
+    readme = pathlib.Path("README.md").read_text("utf-8")
+    uses = {}
+    for line in open("crates.txt", encoding="utf-8"):
+        if line.split("#")[0].strip():
+            head, _, below = line.partition(":")
+            uses[head.split()[0]] = below.split()
+    table = readme.partition("| crate | in a sentence |")[2].partition("\n\n")[0]
+    told = re.findall(r"`(\w+)`", "\n".join(line.split("|")[1] for line in table.split("\n") if line.startswith("| `")))
+    for name in sorted(set(uses) ^ set(told)) + [name for name in set(told) if told.count(name) > 1]:
+        wrong("README.md", 0, f"the crate {name} is not told once")
+    floors = readme.partition("From the top:\n\n")[2].partition("\n\n")[0].split("\n")
+    floor = {name: at for at, line in enumerate(floors) for name in line.split()}
+    for name in floor:
+        if name not in uses:
+            wrong("README.md", 0, f"there is no crate {name}")
+        for below in uses.get(name, []):
+            if below in uses and floor.get(below, -1) <= floor[name]:
+                wrong("README.md", 0, f"{name} uses {below}, which does not stand below it")
+
+
 def run(program, text):
     return subprocess.run([program], input=text.encode("utf-8"), capture_output=True, check=False).stdout.decode("utf-8")
 
@@ -286,6 +308,7 @@ def main():
     check_pool(pathlib.Path("README.md"))
     check_pool(pathlib.Path("docs/SCHEDULE.md"))
     check_shown()
+    check_house()
     if "--program" in args:
         check_program(args[args.index("--program") + 1])
     print("\n".join(said + [f"{len(PAGES)} pages, {len(said)} things that are not so"]))
