@@ -220,6 +220,10 @@ def check_pool(page):
             wrong(page, number, f"the pool is {', '.join(pool) or 'empty'}")
 
 
+def indented(path):
+    return "".join(f"    {line}\n" for line in path.read_text("utf-8").split("\n")[:-1])
+
+
 def check_shown():
     """What the first page shows of files is what stands in them."""
     readme = pathlib.Path("README.md").read_text("utf-8")
@@ -227,12 +231,13 @@ def check_shown():
     table = re.findall(r"^\| (\d+) \| `([^`]+)` \|", readme, re.M)
     if [text for _, text in table] != first or [int(n) for n, _ in table] != list(range(1, len(first) + 1)):
         wrong("README.md", 0, "the table's lines are not those of examples/first.schedule")
-    listing = "".join(f"    {line}\n" for line in pathlib.Path("examples/first.listing").read_text("utf-8").split("\n")[:-1])
-    if listing not in readme:
+    if indented(pathlib.Path("examples/first.listing")) not in readme:
         wrong("README.md", 0, "examples/first.listing is not shown")
-    program = pathlib.Path("crates/library_example/src/main.rt")
-    if program.exists() and f"```rust\n{program.read_text('utf-8')}```" not in readme:
-        wrong("README.md", 0, f"{program} is not shown as it is")
+    example = pathlib.Path("crates/library_example")
+    if f"```rust\n{(example / 'src/main.rt').read_text('utf-8')}```" not in readme:
+        wrong("README.md", 0, "the program of library_example is not shown as it is")
+    if indented(example / "stdout") not in readme:
+        wrong("README.md", 0, "what library_example prints is not shown as it is")
 
 
 def check_house():
