@@ -2,53 +2,54 @@
 use Rattle.std.proofs.Common.{◌≡◌, ℕ, ◌+◌, ◌*◌, ◌<◌, ◌≤◌, List, length, replicate, None, Ok, Err, vec_items, Result, Vec, sym, refl, ap, ◌∙◌, subst, mul-le-mul, arith}
 use Rattle.std.specs.declared.alloc.Global.{Global}
 use Rattle.std.proofs.lemmas.List.{length-replicate}
-use Rattle.rules.specs.Rule.{Behaviour}
-use Rattle.third.specs.Third.{third}
-use Rattle.last.specs.Last.{last}
+use Rattle.catalogue.specs.Catalogue.{behaviour_of, states_of, letters_of}
+use Rattle.catalogue.proofs.Catalogued.{for_sixteen}
+use Rattle.schedule_text.specs.declared.reader.TheConstants.{MAX_VALUES}
+use Rattle.schedule.specs.declared.answer.TheConstants.{POOL_WORDS, BOOK_WORDS}
 use Rattle.lists.proofs.Options.{none_some}
 use Rattle.protocol.specs.declared.types.Step.{Step}
 use Rattle.protocol.specs.Calls.{open_refusal}
 use Rattle.protocol.specs.declared.refusal.Refusal.{Refusal}
-use Rattle.schedule.specs.declared.types.Halt.{Halt}
-use Rattle.schedule.specs.declared.types.Halt.TheVariants.{Refused, NoMemory}
-use Rattle.schedule.specs.declared.types.Fault.{Fault}
-use Rattle.schedule.specs.declared.types.RuleName.{RuleName}
-use Rattle.schedule.specs.declared.types.RuleName.TheVariants.{Third, Last}
-use Rattle.schedule.specs.Reading.{Plan, read_text}
-use Rattle.schedule.specs.Printing.{fault_listing_text}
-use Rattle.schedule.specs.Program.{new_shed, third_state, third_letter, last_state, last_letter, played, told, printed, ListsOneHull, ToldSafely, PrintedSafely}
-use Rattle.schedule.specs.Running.{Runs, RunsBy, Unrefused, Plays}
+use Rattle.schedule_text.specs.declared.halt.Halt.{Halt}
+use Rattle.schedule_text.specs.declared.halt.Halt.TheVariants.{Refused, NoMemory}
+use Rattle.schedule_text.specs.declared.types.Fault.{Fault}
+use Rattle.catalogue.specs.declared.RuleName.{RuleName}
+use Rattle.schedule_text.specs.Reading.{Plan, read_text}
+use Rattle.listing.specs.Listing.{fault_listing_text}
+use Rattle.schedule.specs.Program.{new_shed, told, printed, ToldSafely, PrintedSafely}
+use Rattle.schedule.specs.Running.{Runs, Unrefused, Plays}
 use Rattle.schedule.proofs.Sizes.{opens}
 
-module _ {S L : Type 0} (R : Behaviour S L) where
-  -- the program's buffers are long enough for 1 to 16 values
-  program_opens : (s : S) (l : L) (values : List ℕ) → R.most ≡ 16 → 0 < length values → length values ≤ 16 → open_refusal R (new_shed s l) values ≡ None
+-- a new shed's cells, pool and book are long enough for 1 to 16 values
+module _ (rule : RuleName) (values : List ℕ) (some : 0 < length values) (few : length values ≤ MAX_VALUES) where
+  program_opens : open_refusal (behaviour_of rule) (new_shed (states_of rule) (letters_of rule)) values ≡ None
   unfolding new_shed
-  program_opens s l values most some few =
-      let states : length (replicate 16 s) ≡ 16 = length-replicate 16 s in
-      let letters : length (replicate 272 l) ≡ 272 = length-replicate 272 l in
-      let pool : length (replicate {A = ℕ} 256 0) ≡ 256 = length-replicate {A = ℕ} 256 0 in
-      let book : length (replicate {A = ℕ} 1024 0) ≡ 1024 = length-replicate {A = ℕ} 1024 0 in
+  program_opens =
+      let R = behaviour_of rule in
+      let most : R.most ≡ 16 = for_sixteen.most rule in
+      let states : length (states_of rule) ≡ 16 = for_sixteen.states rule in
+      let letters : length (letters_of rule) ≡ 272 = for_sixteen.letters rule in
+      let pool : length (replicate {A = ℕ} POOL_WORDS 0) ≡ POOL_WORDS = length-replicate {A = ℕ} POOL_WORDS 0 in
+      let book : length (replicate {A = ℕ} BOOK_WORDS 0) ≡ BOOK_WORDS = length-replicate {A = ℕ} BOOK_WORDS 0 in
       let more : length values + 1 ≤ 17 = omega arith in
       let cells : length values * (length values + 1) ≤ 16 * 17 = mul-le-mul few more in
-      opens R (new_shed s l) values refl some (rw most few) (omega arith) (omega arith) (omega arith) (omega arith) (omega arith)
+      opens R (new_shed (states_of rule) (letters_of rule)) values refl some (rw most few)
+      (omega arith) (omega arith) (omega arith) (omega arith) (omega arith)
 
-  fine : (s : S) (l : L) (values : List ℕ) (steps : List Step) → R.most ≡ 16 → 0 < length values → length values ≤ 16 → (r : Result (Vec ℕ Global) (Halt Refusal)) → Runs R (new_shed s l) values steps r → Unrefused r
-  fine s l values steps most some few (Ok v) h = tt
-  fine s l values steps most some few (Err (Refused f)) h = none_some (sym (program_opens s l values most some few) ∙ h)
-  fine s l values steps most some few (Err NoMemory) h = tt
+  -- so its opening is not refused
+  pub not_refused :
+      (steps : List Step) (r : Result (Vec ℕ Global) (Halt Refusal)) →
+      Runs (behaviour_of rule) (new_shed (states_of rule) (letters_of rule)) values steps r → Unrefused r
+  not_refused steps (Ok v) ran = tt
+  not_refused steps (Err (Refused f)) ran = none_some (sym program_opens ∙ ran)
+  not_refused steps (Err NoMemory) ran = tt
 
--- whatever the rule, the opening is not refused
-pub not_refused : (rule : RuleName) (values : List ℕ) (steps : List Step) → 0 < length values → length values ≤ 16 → (r : Result (Vec ℕ Global) (Halt Refusal)) → RunsBy rule values steps r → Unrefused r
-not_refused Third values steps = fine third third_state third_letter values steps refl
-not_refused Last values steps = fine last last_state last_letter values steps refl
-
-listed : (rule : RuleName) (p : Plan) (v : Vec ℕ Global) → RunsBy rule p.values p.steps (Ok v) → (vec_items v ≡ played rule p) × ListsOneHull p.values (vec_items v)
-listed Third p v h = (h.is, h.safe)
-listed Last p v h = (h.is, h.safe)
-
-pub plays : (p : Plan) (r : Result (Vec ℕ Global) (Halt Refusal)) (v : Vec ℕ Global) → RunsBy p.rule p.values p.steps r → r ≡ Ok v → Plays p (vec_items v)
-plays p r v h e = let both = listed p.rule p v (subst (RunsBy p.rule p.values p.steps) e h) in record { is = both.0; safe = both.1 }
+pub plays :
+    (p : Plan) (r : Result (Vec ℕ Global) (Halt Refusal)) (v : Vec ℕ Global) →
+    Runs (behaviour_of p.rule) (new_shed (states_of p.rule) (letters_of p.rule)) p.values p.steps r → r ≡ Ok v → Plays p (vec_items v)
+plays p r v ran e =
+    let listed = subst (Runs (behaviour_of p.rule) (new_shed (states_of p.rule) (letters_of p.rule)) p.values p.steps) e ran in
+    record { is = listed.is; safe = listed.safe }
 
 module _ (text out : List ℕ) where
   pub prints_plan : (p : Plan) → read_text text ≡ Ok p → Plays p out → out ≡ printed text

@@ -1,15 +1,4 @@
 pub mod Answered
-pub mod Cutting
-pub mod Filling
-pub mod Judged
-pub mod Lines
 pub mod Listed
-pub mod NextStep
-pub mod Numbers
 pub mod Played
-pub mod ReadBack
-pub mod ReadOnly
 pub mod Sizes
-pub mod Steps
-pub mod Values
-pub mod Whole

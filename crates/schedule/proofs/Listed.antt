@@ -14,12 +14,12 @@ use Rattle.protocol.specs.Tally.{Triple, start, tally}
 use Rattle.protocol.specs.Guarantee.{Guarantee, entry}
 use Rattle.shed_core.specs.declared.shed.Shed.{Shed}
 use Rattle.shed_core.specs.declared.buffers.Buffers.{Buffers}
-use Rattle.schedule.specs.declared.types.Halt.{Halt}
-use Rattle.schedule.specs.declared.types.Halt.TheVariants.{Refused, NoMemory}
+use Rattle.schedule_text.specs.declared.halt.Halt.{Halt}
+use Rattle.schedule_text.specs.declared.halt.Halt.TheVariants.{Refused, NoMemory}
 use Rattle.shed_core.specs.Of.{world_of}
 use Rattle.conduct.specs.Conduct.{CarriedOut}
-use Rattle.schedule.specs.declared.printer.RefusedStep.{RefusedStep}
-use Rattle.schedule.specs.Printing.{listing_text}
+use Rattle.listing.specs.declared.printer.RefusedStep.{RefusedStep}
+use Rattle.listing.specs.Listing.{listing_text}
 use Rattle.schedule.specs.Program.{refused_from, sight, sights, begun, over, run_listing, hull_at, ListsOneHull}
 use Rattle.schedule.specs.Running.{Seen, Listed, Runs}
 use Rattle.schedule.proofs.Sizes.{looks, accepted, book_length}

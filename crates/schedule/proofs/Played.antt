@@ -6,7 +6,7 @@ use Rattle.lists.proofs.Tables.{tabulate_more}
 use Rattle.protocol.specs.declared.refusal.Refusal.{Refusal}
 use Rattle.protocol.specs.declared.types.Sight.{Sight}
 use Rattle.protocol.specs.World.{World}
-use Rattle.schedule.specs.declared.printer.RefusedStep.{RefusedStep}
+use Rattle.listing.specs.declared.printer.RefusedStep.{RefusedStep}
 use Rattle.schedule.specs.Program.{refused_from, sight, sights}
 
 -- ---- refused steps

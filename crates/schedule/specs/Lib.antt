@@ -1,9 +1,2 @@
-pub mod Faults
-pub mod Judging
-pub mod Listing
-pub mod Printing
 pub mod Program
-pub mod Reading
-pub mod Reception
 pub mod Running
-pub mod Writing

@@ -1,25 +1,20 @@
 -- What the program prints of a text.
-use Rattle.std.specs.Prelude.{◌≡◌, ℕ, suc, ◌<◌, false, List, [], ◌∷◌, length, take, replicate, Some, None, Ok, Err, Option, Result, slice_index}
+use Rattle.std.specs.Prelude.{◌≡◌, ℕ, suc, ◌<◌, List, [], ◌∷◌, length, take, replicate, Some, None, Ok, Err, Option, Result, slice_index}
 use Rattle.std.specs.List.{slice_get}
 use Rattle.lists.specs.Lists.{tabulate}
 use Rattle.rules.specs.Rule.{Behaviour}
-use Rattle.third.specs.declared.State.{State as ThirdState}
-use Rattle.third.specs.declared.Letter.{Letter as ThirdLetter}
-use Rattle.third.specs.Third.{third}
-use Rattle.last.specs.declared.State.{State as LastState}
-use Rattle.last.specs.declared.Letter.{Letter as LastLetter}
-use Rattle.last.specs.Last.{last}
+use Rattle.catalogue.specs.Catalogue.{behaviour_of, states_of, letters_of}
 use Rattle.protocol.specs.declared.refusal.Refusal.{Refusal}
 use Rattle.protocol.specs.declared.types.Sight.{Sight}
 use Rattle.protocol.specs.declared.types.Step.{Step}
 use Rattle.protocol.specs.World.{World, station, shut}
 use Rattle.protocol.specs.Calls.{opened, after, refusals, state_of}
-use Rattle.schedule.specs.declared.printer.RefusedStep.{RefusedStep}
-use Rattle.schedule.specs.declared.types.Fault.{Fault}
-use Rattle.schedule.specs.declared.types.RuleName.{RuleName}
-use Rattle.schedule.specs.declared.types.RuleName.TheVariants.{Third, Last}
-use Rattle.schedule.specs.Printing.{listing_text, fault_listing_text}
-use Rattle.schedule.specs.Reading.{Plan, read_text}
+use Rattle.listing.specs.declared.printer.RefusedStep.{RefusedStep}
+use Rattle.schedule_text.specs.declared.types.Fault.{Fault}
+use Rattle.schedule.specs.declared.answer.TheConstants.{POOL_WORDS, BOOK_WORDS}
+use Rattle.schedule_text.specs.declared.reader.TheConstants.{FIRST_STEP}
+use Rattle.listing.specs.Listing.{listing_text, fault_listing_text}
+use Rattle.schedule_text.specs.Reading.{Plan, read_text}
 
 -- ---- a run and its listing
 -- the refused ones of the steps that stand on the lines from the given one on
@@ -45,34 +40,21 @@ module _ {S L : Type 0} (R : Behaviour S L) where
     over = after R begun steps
 
     unfoldable pub run_listing : List ℕ
-    run_listing = listing_text (refused_from 3 (refusals R begun steps)) (sights over (length values)) (take over.entries over.book)
+    run_listing = listing_text (refused_from FIRST_STEP (refusals R begun steps)) (sights over (length values)) (take over.entries over.book)
 
 -- ---- the program
--- a new shed with 16 cells for states, 16 × 17 for letters, a pool of 256 words and a book of 1,024
-unfoldable pub new_shed : {S L : Type 0} → S → L → World S L
-new_shed s l = shut (replicate 16 s) (replicate 272 l) (replicate 256 0) (replicate 1024 0)
-
-abbrev pub third_state : ThirdState
-third_state = record { value = 0; hull = None }
-
-abbrev pub third_letter : ThirdLetter
-third_letter = record { value = 0 }
-
-abbrev pub last_state : LastState
-last_state = record { value = 0; stamp = 0; vote = 0; committed = false; ready = false; hull = None }
-
-abbrev pub last_letter : LastLetter
-last_letter = record { value = 0; stamp = 0 }
+-- a new shed with these cells, and a pool and a book of zeros
+unfoldable pub new_shed : {S L : Type 0} → List S → List L → World S L
+new_shed states letters = shut states letters (replicate POOL_WORDS 0) (replicate BOOK_WORDS 0)
 
 -- the listing of a plan, run by the rule that it names
-abbrev pub played : RuleName → Plan → List ℕ
-played Third p = run_listing third (new_shed third_state third_letter) p.values p.steps
-played Last p = run_listing last (new_shed last_state last_letter) p.values p.steps
+abbrev pub played : Plan → List ℕ
+played p = run_listing (behaviour_of p.rule) (new_shed (states_of p.rule) (letters_of p.rule)) p.values p.steps
 
 -- a faulty text has its fault printed, and any other the listing of its plan
 abbrev pub told : Result Plan Fault → List ℕ
 told (Err f) = fault_listing_text f
-told (Ok p) = played p.rule p
+told (Ok p) = played p
 
 abbrev pub printed : List ℕ → List ℕ
 printed text = told (read_text text)

@@ -2,19 +2,15 @@
 use Rattle.std.specs.Prelude.{◌≡◌, ℕ, ◌<◌, List, Some, Ok, Err, vec_items, Result, Vec}
 use Rattle.std.specs.declared.alloc.Global.{Global}
 use Rattle.rules.specs.Rule.{Behaviour}
-use Rattle.third.specs.Third.{third}
-use Rattle.last.specs.Last.{last}
 use Rattle.protocol.specs.declared.types.Sight.{Sight}
 use Rattle.protocol.specs.declared.types.Step.{Step}
 use Rattle.protocol.specs.World.{World}
 use Rattle.protocol.specs.Calls.{open_refusal, look_refusal}
 use Rattle.protocol.specs.declared.refusal.Refusal.{Refusal}
-use Rattle.schedule.specs.declared.types.Halt.{Halt}
-use Rattle.schedule.specs.declared.types.Halt.TheVariants.{Refused, NoMemory}
-use Rattle.schedule.specs.Program.{sights, run_listing, played, new_shed, third_state, third_letter, last_state, last_letter, ListsOneHull}
-use Rattle.schedule.specs.declared.types.RuleName.{RuleName}
-use Rattle.schedule.specs.declared.types.RuleName.TheVariants.{Third, Last}
-use Rattle.schedule.specs.Reading.{Plan}
+use Rattle.schedule_text.specs.declared.halt.Halt.{Halt}
+use Rattle.schedule_text.specs.declared.halt.Halt.TheVariants.{Refused, NoMemory}
+use Rattle.schedule.specs.Program.{sights, run_listing, played, ListsOneHull}
+use Rattle.schedule_text.specs.Reading.{Plan}
 
 -- what is seen of the stations below n, or why one of them is not shown
 abbrev pub Seen : {S L : Type 0} → Behaviour S L → World S L → ℕ → Result (Vec Sight Global) (Halt Refusal) → Type 0
@@ -38,12 +34,7 @@ Unrefused (Ok v) = Unit {0}
 Unrefused (Err (Refused f)) = ⊥
 Unrefused (Err NoMemory) = Unit {0}
 
--- a run by the rule of that name, in the program's new shed
-abbrev pub RunsBy : RuleName → List ℕ → List Step → Result (Vec ℕ Global) (Halt Refusal) → Type 0
-RunsBy Third = Runs third (new_shed third_state third_letter)
-RunsBy Last = Runs last (new_shed last_state last_letter)
-
 -- what is printed of a plan: its listing, with at most one hull
 pub record Plays (p : Plan) (out : List ℕ) : Type 0 where
-  pub is : out ≡ played p.rule p
+  pub is : out ≡ played p
   pub safe : ListsOneHull p.values out

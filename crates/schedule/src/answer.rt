@@ -1,88 +1,63 @@
 // From the text of a schedule to what is printed of it.
 ghost use Rattle.std.specs.Prelude.{◌≡◌, IfOk, Ok};
-ghost use Rattle.std.specs.Borrow.{Array};
-ghost use Rattle.std.specs.Mem.{FitsInMemory};
-ghost use Rattle.third.specs.Third.{third};
-ghost use Rattle.last.specs.Last.{last};
-ghost use Rattle.schedule.specs.Program.{new_shed, third_state, third_letter, last_state, last_letter, printed, PrintedSafely};
-ghost use Rattle.schedule.specs.Reading.{plan};
-ghost use Rattle.schedule.specs.Running.{Runs, RunsBy, Unrefused, Plays};
-ghost use Rattle.schedule.specs.Writing.{Fits};
+ghost use Rattle.schedule_text.specs.Reading.{plan};
+ghost use Rattle.schedule_text.specs.Writing.{PlanFits};
+ghost use Rattle.schedule.specs.Program.{new_shed, printed, PrintedSafely};
+ghost use Rattle.schedule.specs.Running.{Runs, Unrefused, Plays};
 
-use crate::printer::fault_listing;
-use crate::reader::read_schedule;
 use crate::running::run;
-use crate::types::{Halt, ReadError, RuleName, Schedule};
-use last::Last;
+use catalogue::{WithRule, with_rule};
+use listing::printer::fault_listing;
 use protocol::refusal::Refusal;
 use protocol::types::Step;
 use rules::Rule;
+use schedule_text::halt::Halt;
+use schedule_text::reader::read_schedule;
+use schedule_text::types::{ReadError, Schedule};
 use std::alloc::{AllocError, Global};
-use third::Third;
 
-// A cell for each of 16 stations, and for each a row of 17 letters.
-const STATES: usize = 16;
-
-const LETTERS: usize = 272;
-
+// The words of a new shed's pool.
 const POOL_WORDS: usize = 256;
 
+// The words of a new shed's book.
 const BOOK_WORDS: usize = 1024;
 
-// A run in the program's new shed, with this state and this letter in every cell.
-#[tactic(auto, unfolding(crate::specs::Program::new_shed))]
-fn run_new<R: Rule>(
+// A run in a new shed, whichever the rule is: the opening values, and the steps in their order.
+#[derive(Clone, Copy)]
+struct NewRun<'a> {
     heap: Global,
-    rule: &R,
-    state: R::State,
-    letter: R::Letter,
-    values: &[u16],
-    steps: &[Step],
-) -> Result<Vec<u8>, Halt<Refusal>>
-    requires states { FitsInMemory (Array R.State.row 16) }
-    requires letters { FitsInMemory (Array R.Letter.row 272) }
-    ensures { Runs (R.Rule.behaviour rule.now) (new_shed state letter) values.now steps.now result }
-{
-    let mut states = [state; STATES];
-    let mut letters = [letter; LETTERS];
-    let mut pool = [0; POOL_WORDS];
-    let mut book = [0; BOOK_WORDS];
-    run(
-        heap,
-        rule,
-        &mut states,
-        &mut letters,
-        &mut pool,
-        &mut book,
-        values,
-        steps,
-    )
+    values: &'a [u16],
+    steps: &'a [Step],
 }
 
-// The same by the rule of that name. Each rule has its own kinds of state and letter, so no `dyn` serves both.
-fn run_by(
-    heap: Global,
-    rule: RuleName,
-    values: &[u16],
-    steps: &[Step],
-) -> Result<Vec<u8>, Halt<Refusal>>
-    ensures { RunsBy rule values.now steps.now result }
-{
-    match rule {
-        RuleName::Third => {
-            let state = Third.first(1, 0, 0);
-            let letter = third::Letter { value: 0 };
-            run_new(heap, &Third, state, letter, values, steps)
-        }
-        RuleName::Last => {
-            let state = Last.first(1, 0, 0);
-            let letter = last::Letter { value: 0, stamp: 0 };
-            run_new(heap, &Last, state, letter, values, steps)
-        }
+impl WithRule for NewRun<'_> {
+    type Answer = Result<Vec<u8>, Halt<Refusal>>;
+
+    ghost promises = { λ asked R states letters out. Runs R (new_shed states letters) asked.values.now asked.steps.now out };
+
+    #[tactic(auto, unfolding(crate::specs::Program::new_shed))]
+    fn with<R: Rule>(
+        self,
+        rule: &R,
+        states: &mut [R::State],
+        letters: &mut [R::Letter],
+    ) -> Result<Vec<u8>, Halt<Refusal>> {
+        let mut pool = [0; POOL_WORDS];
+        let mut book = [0; BOOK_WORDS];
+        run(
+            self.heap,
+            rule,
+            states,
+            letters,
+            &mut pool,
+            &mut book,
+            self.values,
+            self.steps,
+        )
     }
 }
 
-// A run whose opening is not refused ends with its listing, or for want of memory.
+// A run whose opening is not refused ends with its listing, or out of memory.
 fn unrefused(out: Result<Vec<u8>, Halt<Refusal>>) -> Result<Vec<u8>, AllocError>
     requires { Unrefused out }
     ensures { IfOk result (λ v. out ≡ Ok v) }
@@ -96,16 +71,23 @@ fn unrefused(out: Result<Vec<u8>, Halt<Refusal>>) -> Result<Vec<u8>, AllocError>
 
 // The listing of a schedule.
 fn play(heap: Global, schedule: &Schedule) -> Result<Vec<u8>, AllocError>
-    requires { Fits (plan schedule.now) }
+    requires { PlanFits (plan schedule.now) }
     ensures { IfOk result (λ v. Plays (plan schedule.now) v.items) }
 {
     let values = schedule.values.as_slice();
     let steps = schedule.steps.as_slice();
-    let out = run_by(heap, schedule.rule, values, steps);
+    let out = with_rule(
+        schedule.rule,
+        NewRun {
+            heap,
+            values,
+            steps,
+        },
+    );
     unrefused(out)
 }
 
-// What the program prints of a text: its fault, or the listing of its schedule. Fails only for want of memory.
+/// What the program prints of a text: its fault, or the listing of its schedule. Fails only out of memory.
 pub fn answer(heap: Global, text: &[u8]) -> Result<Vec<u8>, AllocError>
     ensures prints { IfOk result (λ v. v.items ≡ printed text.now) }
     ensures safely { IfOk result (λ v. PrintedSafely text.now v.items) }

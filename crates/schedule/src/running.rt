@@ -5,13 +5,13 @@ ghost use Rattle.shed_core.specs.Of.{world_of};
 ghost use Rattle.schedule.specs.Program.{refused_from};
 ghost use Rattle.schedule.specs.Running.{Seen, Runs};
 
-use crate::printer::{RefusedStep, Report};
-use crate::reader::FIRST_STEP;
-use crate::types::Halt;
 use conduct::conduct;
+use listing::printer::{RefusedStep, Report};
 use protocol::refusal::Refusal;
 use protocol::types::{Sight, Step};
 use rules::Rule;
+use schedule_text::halt::Halt;
+use schedule_text::reader::FIRST_STEP;
 use shed_core::buffers::Buffers;
 use shed_core::shed::Shed;
 use std::alloc::{AllocError, Global};

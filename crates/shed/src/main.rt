@@ -2,7 +2,7 @@
 #![tactic(auto)]
 
 use schedule::answer::answer;
-use schedule::reader::MAX_BYTES;
+use schedule_text::reader::MAX_BYTES;
 use std::io::{Read, Write};
 
 fn main(rt: HostRuntime) -> anyhow::Result<()> {

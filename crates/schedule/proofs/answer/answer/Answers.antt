@@ -1,7 +1,7 @@
 use Rattle.std.proofs.Common.{◌≡◌, Err, vec_items, subst}
 use Rattle.std.proofs.lemmas.Result.{IfOk-weaker}
-use Rattle.schedule.specs.Reading.{plan, Reads}
-use Rattle.schedule.specs.Printing.{fault_listing_text}
+use Rattle.schedule_text.specs.Reading.{plan, Reads}
+use Rattle.listing.specs.Listing.{fault_listing_text}
 use Rattle.schedule.specs.Program.{printed, PrintedSafely}
 use Rattle.schedule.specs.Running.{Plays}
 use Rattle.schedule.proofs.Answered.{prints_plan, safe_plan, prints_fault, safe_fault}

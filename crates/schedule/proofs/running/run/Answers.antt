@@ -5,7 +5,7 @@ use Rattle.lists.proofs.Tables.{length_tabulate}
 use Rattle.protocol.specs.World.{shut}
 use Rattle.shed_core.specs.Of.{world_of}
 use Rattle.schedule.specs.Program.{refused_from, sight}
-use Rattle.schedule.specs.Printing.{listing_text}
+use Rattle.listing.specs.Listing.{listing_text}
 use Rattle.schedule.proofs.Listed.{not_seen, few, book_few, lists}
 use Rattle.schedule.proofs.running.run.Goals as goal
 

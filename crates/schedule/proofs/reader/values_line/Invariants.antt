@@ -1,6 +1,0 @@
-use Rattle.std.proofs.Common.{length, drop, vec_items}
-use Rattle.schedule.proofs.Values.{Sofar, words}
-use Rattle.schedule.proofs.reader.values_line.Given as goal
-
-abbrev pub invariant-loop-digits : goal.invariant-loop-digits
-invariant-loop-digits l = Sofar (words l.line) (vec_items l.values) (drop (length l.yielded) (words l.line))

@@ -1,0 +1,10 @@
+pub mod Cutting
+pub mod Judged
+pub mod Lines
+pub mod NextStep
+pub mod Numbers
+pub mod ReadBack
+pub mod ReadOnly
+pub mod Steps
+pub mod Values
+pub mod Whole

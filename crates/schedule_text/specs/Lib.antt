@@ -1,0 +1,4 @@
+pub mod Faults
+pub mod Judging
+pub mod Reading
+pub mod Writing
