@@ -17,9 +17,9 @@ import sys
 PAGES = [pathlib.Path("README.md"), *sorted(pathlib.Path("docs").glob("*.md")), pathlib.Path("examples/README.md"), pathlib.Path("peer/README.md")]
 # Pages on what was: their names are those of that time.
 HISTORY = {"PORT.md", "DESIGN-PASS.md"}
-MADE = ("crates/shed/out", "crates/peer_bridge/out", "target/", "../crates/shed/out", "../crates/peer_bridge/out")
+MADE = ("crates/my_program", "crates/shed/out", "crates/peer_bridge/out", "target/", "../crates/shed/out", "../crates/peer_bridge/out")
 # Names of the kit, of Rust and of the pages' own examples that stand in no file of ours.
-ELSEWHERE = set("os_error rt_try MatchOption with_capacity from_utf8 split_inclusive iter_mut proved_no TryFrom FromStr my_rule my_rule_kinds".split())
+ELSEWHERE = set("dyn split_inclusive iter_mut from_utf8 TryFrom FromStr my_program".split())
 
 said = []
 

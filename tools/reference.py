@@ -41,7 +41,7 @@ def comment_above(lines, at):
     found = []
     while at > 0 and re.match(r"\s*//", lines[at - 1]):
         at -= 1
-        found.insert(0, lines[at].strip()[2:].strip())
+        found.insert(0, lines[at].strip().lstrip("/!").strip())
     return " ".join(found)
 
 
