@@ -1,5 +1,6 @@
 -- Every worked example is computed, or follows from how many letters are heard.
-use Rattle.std.proofs.Common.{refl}
+use Rattle.std.proofs.Common.{◌≡◌, [], ◌∷◌, Some, refl}
+use Rattle.third.specs.Third.{third}
 use Rattle.rules.specs.Rule.{lockstep}
 use Rattle.frames.specs.Frame.{pack_frame, read_frame}
 use Rattle.frames.specs.Book.{pack_entry}
@@ -8,31 +9,33 @@ use Rattle.protocol.specs.Calls.{step, after, refusals}
 use Rattle.protocol.specs.Tally.{tally, tally_accepted}
 use Rattle.worked_examples.specs.Rules.{ThirdExamples, LastExamples}
 use Rattle.worked_examples.specs.Words.{WordExamples}
-use Rattle.worked_examples.specs.Calls.{RunExample, FateExamples, RefusalExamples}
-use Rattle.worked_examples.specs.Worked.{WorkedExamples}
+use Rattle.worked_examples.specs.Calls.{begin, run, RunExample, FateExamples, RefusalExamples, CallExamples}
 use Rattle.worked_examples.proofs.Hearing.{any_two_of_three, any_three_of_four}
 
-third_rounds : ThirdExamples
-third_rounds = record { tie_of_two = refl; two_of_three_agree = refl; three_agree = refl; two_of_three_heard = refl; any_two_of_three = any_two_of_three }
+pub third_rounds : ThirdExamples
+third_rounds = record { rounds = refl; any_two_of_three = any_two_of_three }
 
-last_rounds : LastExamples
-last_rounds = record { two_of_four = refl; three_of_four = refl; any_two_of_four = λ s m whole two. rw (whole, two) refl; any_three_of_four = any_three_of_four; latest_from_lowest = refl; last_stamp = refl; stamp_too_large = refl }
+pub last_rounds : LastExamples
+last_rounds = record { rounds = refl; any_two_of_four = λ s m whole two. rw (whole, two) refl; any_three_of_four = any_three_of_four; stamps = refl }
 
-words : WordExamples
+pub words : WordExamples
 unfolding pack_frame read_frame pack_entry
 words = record {
-  third_frame = refl;
+  packed = refl;
   third_reads = refl;
-  last_frame = refl;
   last_reads = refl;
   no_sender = refl;
   no_letter = refl;
-  heard_both = refl;
 }
 
-a_run : RunExample
+pub a_run : RunExample
 unfolding after refusals step tally tally_accepted lockstep pack_frame read_frame pack_entry take_out
 a_run = record { refused = refl; hulls = refl; book = refl; triples = refl }
+
+-- the cells of both stations after the run
+pub last_cells : (after third begin run).states ≡ record { value = 7; hull = Some 7 } ∷ record { value = 7; hull = Some 7 } ∷ []
+unfolding after step lockstep pack_frame read_frame pack_entry take_out
+last_cells = refl
 
 fates : FateExamples
 unfolding after step pack_frame read_frame pack_entry take_out
@@ -67,5 +70,5 @@ refused = record {
   last_round = refl;
 }
 
-pub computed : WorkedExamples
-computed = record { third_rounds = third_rounds; last_rounds = last_rounds; words = words; a_run = a_run; fates = fates; refusals = refused }
+pub calls : CallExamples
+calls = record { a_run = a_run; fates = fates; refused = refused }

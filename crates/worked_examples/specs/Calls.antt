@@ -1,5 +1,5 @@
 -- Worked examples of the calls: two stations that open with 9 and 7 under OneThirdRule.
-use Rattle.std.specs.Prelude.{◌≡◌, ℕ, true, false, List, [], ◌∷◌, map, take, replicate, Some, None, Ok, Option, Result}
+use Rattle.std.specs.Prelude.{◌≡◌, ℕ, true, false, List, [], ◌∷◌, ◌++◌, map, take, replicate, Some, None, Ok, Option, Result}
 use Rattle.third.specs.declared.State.{State}
 use Rattle.third.specs.declared.Letter.{Letter}
 use Rattle.third.specs.Third.{third}
@@ -37,13 +37,20 @@ told =
     None ∷ None ∷ None ∷ None ∷ None ∷ None ∷ None ∷ Some HoldsLetter ∷
     None ∷ None ∷ None ∷ None ∷ None ∷ None ∷ None ∷ Some NotListening ∷ []
 
+abbrev pub settled : List (Option ℕ)
+settled = Some 7 ∷ Some 7 ∷ []
+
+-- the four entries, and what is left of the book
 abbrev pub entries : List ℕ
 entries = 0x0000C00000000000 ∷ 0x1000000000000000 ∷ 0x0001C00000000000 ∷ 0x1001C00000000000 ∷ []
 
+abbrev pub book_words : List ℕ
+book_words = entries ++ (0 ∷ 0 ∷ [])
+
 pub record RunExample : Type 0 where
   pub refused : refusals third begin run ≡ told
-  pub hulls : map (λ s. s.hull) (after third begin run).states ≡ Some 7 ∷ Some 7 ∷ []
-  pub book : (after third begin run).book ≡ 0x0000C00000000000 ∷ 0x1000000000000000 ∷ 0x0001C00000000000 ∷ 0x1001C00000000000 ∷ 0 ∷ 0 ∷ []
+  pub hulls : map (λ s. s.hull) (after third begin run).states ≡ settled
+  pub book : (after third begin run).book ≡ book_words
   pub triples : map entry (tally third values start run told).triples ≡ entries
 
 -- ---- fates
@@ -93,3 +100,8 @@ pub record RefusalExamples : Type 0 where
   pub full_pool : refused_after (opened third (buffers 1 6) values) [] (Send 0) ≡ Some PoolFull
   pub full_book : refused_after (opened third (buffers 8 0) values) (Send 0 ∷ []) (Turn 0) ≡ Some BookFull
   pub last_round : refused_after at_the_end [] (Turn 0) ≡ Some LastRound
+
+pub record CallExamples : Type 0 where
+  pub a_run : RunExample
+  pub fates : FateExamples
+  pub refused : RefusalExamples

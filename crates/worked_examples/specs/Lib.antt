@@ -1,4 +1,3 @@
 pub mod Rules
 pub mod Words
 pub mod Calls
-pub mod Worked

@@ -17,11 +17,14 @@ value v = Some (record { value = v })
 abbrev pub third_hears : ℕ → List (Option ThirdLetter) → ThirdState
 third_hears n m = third.next n 0 0 (voting 9 None) m
 
+-- what the four rounds give: a tie of two, two of three that agree, three that agree, and two of three that are heard
+abbrev pub third_states : List ThirdState
+third_states = voting 7 None ∷ voting 7 None ∷ voting 7 (Some 7) ∷ voting 9 None ∷ []
+
 pub record ThirdExamples : Type 0 where
-  pub tie_of_two : third_hears 2 (value 9 ∷ value 7 ∷ []) ≡ voting 7 None
-  pub two_of_three_agree : third_hears 3 (value 7 ∷ value 7 ∷ value 9 ∷ []) ≡ voting 7 None
-  pub three_agree : third_hears 3 (value 7 ∷ value 7 ∷ value 7 ∷ []) ≡ voting 7 (Some 7)
-  pub two_of_three_heard : third_hears 3 (value 7 ∷ value 7 ∷ None ∷ []) ≡ voting 9 None
+  pub rounds :
+      third_hears 2 (value 9 ∷ value 7 ∷ []) ∷ third_hears 3 (value 7 ∷ value 7 ∷ value 9 ∷ []) ∷
+      third_hears 3 (value 7 ∷ value 7 ∷ value 7 ∷ []) ∷ third_hears 3 (value 7 ∷ value 7 ∷ None ∷ []) ∷ [] ≡ third_states
   -- whatever two letters they are, and whatever the state
   pub any_two_of_three : (s : ThirdState) (m : List (Option ThirdLetter)) → length m ≡ 3 → third_heard m ≡ 2 → third.next 3 0 0 s m ≡ s
 
@@ -35,12 +38,23 @@ stamped v x = Some (record { value = v; stamp = x })
 abbrev pub last_hears : List (Option LastLetter) → LastState
 last_hears m = last.next 4 0 0 opened m
 
+-- it commits to a value
+abbrev pub votes_for : ℕ → LastState
+votes_for v = record { value = 5; stamp = 0; vote = v; committed = true; ready = false; hull = None }
+
+-- what the three rounds give: two of four heard, three of four heard, and the latest stamp from two senders
+abbrev pub last_states : List LastState
+last_states = opened ∷ votes_for 5 ∷ votes_for 200 ∷ []
+
+-- what the two numbers unpack to: the last stamp, and one more
+abbrev pub unpacked : List (Option LastLetter)
+unpacked = stamped 300 1024 ∷ None ∷ []
+
 pub record LastExamples : Type 0 where
-  pub two_of_four : (last_hears (stamped 5 0 ∷ stamped 6 0 ∷ None ∷ None ∷ [])).committed ≡ false
-  pub three_of_four : (last_hears (stamped 5 0 ∷ stamped 6 0 ∷ None ∷ stamped 7 0 ∷ [])).committed ≡ true
+  pub rounds :
+      last_hears (stamped 5 0 ∷ stamped 6 0 ∷ None ∷ None ∷ []) ∷ last_hears (stamped 5 0 ∷ stamped 6 0 ∷ None ∷ stamped 7 0 ∷ []) ∷
+      last_hears (stamped 300 1 ∷ stamped 200 2 ∷ stamped 100 2 ∷ None ∷ []) ∷ [] ≡ last_states
   -- whatever two or three letters they are, and whatever the state
   pub any_two_of_four : (s : LastState) (m : List (Option LastLetter)) → length m ≡ 4 → last_heard m ≡ 2 → last.next 4 0 0 s m ≡ s
   pub any_three_of_four : (s : LastState) (m : List (Option LastLetter)) → length m ≡ 4 → last_heard m ≡ 3 → (last.next 4 0 0 s m).committed ≡ true
-  pub latest_from_lowest : (last_hears (stamped 300 1 ∷ stamped 200 2 ∷ stamped 100 2 ∷ None ∷ [])).vote ≡ 200
-  pub last_stamp : last.unpack (300 * 2 ^ 28 + 1024 * 2 ^ 17) ≡ stamped 300 1024
-  pub stamp_too_large : last.unpack (300 * 2 ^ 28 + 1025 * 2 ^ 17) ≡ None
+  pub stamps : last.unpack (300 * 2 ^ 28 + 1024 * 2 ^ 17) ∷ last.unpack (300 * 2 ^ 28 + 1025 * 2 ^ 17) ∷ [] ≡ unpacked

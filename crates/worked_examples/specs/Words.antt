@@ -1,16 +1,20 @@
 -- Worked examples of frames and book entries.
-use Rattle.std.specs.Prelude.{◌≡◌, true, false, ◌∷◌, replicate, Some, None}
+use Rattle.std.specs.Prelude.{◌≡◌, ℕ, true, false, List, [], ◌∷◌, replicate, Some, None}
 use Rattle.third.specs.Third.{third}
 use Rattle.last.specs.Last.{last}
 use Rattle.frames.specs.Frame.{pack_frame, read_frame}
 use Rattle.frames.specs.Book.{pack_entry}
 
+-- a frame of each rule, and an entry
+abbrev pub words : List ℕ
+words = 0x0100100070000000 ∷ 0x20004012C0020000 ∷ 0x1001C00000000000 ∷ []
+
 pub record WordExamples : Type 0 where
-  pub third_frame : pack_frame third (0, 1, 1, record { value = 7 }) ≡ 0x0100100070000000
+  pub packed :
+      pack_frame third (0, 1, 1, record { value = 7 }) ∷ pack_frame last (2, 0, 4, record { value = 300; stamp = 1 }) ∷
+      pack_entry 1 1 (true ∷ true ∷ replicate 14 false) ∷ [] ≡ words
   pub third_reads : read_frame third 2 0x0100100070000000 ≡ Some (0, 1, 1, record { value = 7 })
-  pub last_frame : pack_frame last (2, 0, 4, record { value = 300; stamp = 1 }) ≡ 0x20004012C0020000
   pub last_reads : read_frame last 3 0x20004012C0020000 ≡ Some (2, 0, 4, record { value = 300; stamp = 1 })
   -- a station that is not there, and low bits that no letter has
   pub no_sender : read_frame last 2 0x20004012C0020000 ≡ None
   pub no_letter : read_frame third 2 0x0100100070000001 ≡ None
-  pub heard_both : pack_entry 1 1 (true ∷ true ∷ replicate 14 false) ≡ 0x1001C00000000000
