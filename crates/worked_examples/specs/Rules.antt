@@ -29,14 +29,14 @@ pub record ThirdExamples : Type 0 where
   pub any_two_of_three : (s : ThirdState) (m : List (Option ThirdLetter)) → length m ≡ 3 → third_heard m ≡ 2 → third.next 3 0 0 s m ≡ s
 
 -- ---- LastVoting: station 0, the coordinator of round 0, with value 5
-abbrev pub opened : LastState
-opened = last.first 4 0 5
+abbrev pub first_state : LastState
+first_state = last.first 4 0 5
 
 abbrev pub stamped : ℕ → ℕ → Option LastLetter
 stamped v x = Some (record { value = v; stamp = x })
 
 abbrev pub last_hears : List (Option LastLetter) → LastState
-last_hears m = last.next 4 0 0 opened m
+last_hears m = last.next 4 0 0 first_state m
 
 -- it commits to a value
 abbrev pub votes_for : ℕ → LastState
@@ -44,7 +44,7 @@ votes_for v = record { value = 5; stamp = 0; vote = v; committed = true; ready =
 
 -- what the three rounds give: two of four heard, three of four heard, and the latest stamp from two senders
 abbrev pub last_states : List LastState
-last_states = opened ∷ votes_for 5 ∷ votes_for 200 ∷ []
+last_states = first_state ∷ votes_for 5 ∷ votes_for 200 ∷ []
 
 -- what the two numbers unpack to: the last stamp, and one more
 abbrev pub unpacked : List (Option LastLetter)
