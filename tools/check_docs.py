@@ -304,6 +304,9 @@ def main():
         subprocess.run([sys.executable, "tools/reference.py"], check=True)
     elif subprocess.run([sys.executable, "tools/reference.py", "--check"], capture_output=True, check=False).returncode:
         wrong("docs/REFERENCE.md", 0, "not fresh (tools/reference.py writes it)")
+    for number, line in enumerate(pathlib.Path("docs/REFERENCE.md").read_text("utf-8").split("\n"), 1):
+        if line.lstrip().startswith("requires"):
+            wrong("docs/REFERENCE.md", number, f"a public function has a precondition: {line.strip()}")
     check_counts(write)
     known = code_words()
     for page in PAGES:

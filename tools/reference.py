@@ -52,10 +52,10 @@ def head_comment(lines):
 
 
 def signature(lines, at):
-    """From an item's first line to its body, its contract or its end."""
+    """From an item's first line to its body, its promises or its end, with what it asks for first."""
     text = []
     for line in lines[at:]:
-        if re.match(r"\s*(requires|ensures)\b", line) or line.strip() == "{":
+        if re.match(r"\s*ensures\b", line) or line.strip() == "{":
             break
         text.append(line.rstrip())
         if line.rstrip().endswith(("{", ";", "{}")):
