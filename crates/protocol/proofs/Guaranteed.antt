@@ -1,8 +1,7 @@
 -- The guarantee, from the invariant after every list of calls.
-use Rattle.std.proofs.Common.{◌≡◌, ℕ, ◌+◌, ◌-◌, ◌^◌, ◌<◌, ◌≤◌, Bool, cond, eqb, List, [], ◌∷◌, ◌++◌, length, get_or, Some, None, Option, sym, refl, ap, ◌∙◌, inl, inr, arith}
+use Rattle.std.proofs.Common.{◌≡◌, ℕ, ◌-◌, ◌^◌, ◌<◌, ◌≤◌, List, [], ◌∷◌, ◌++◌, length, get_or, Some, None, Option, sym, refl, ap, ◌∙◌, arith}
 use mathlib.Core.Path.{fun_ext}
 use Rattle.std.proofs.lemmas.List.{length-replicate}
-use Rattle.std.proofs.lemmas.Bool.{cases_eq, eq-eqb, ne_eqb}
 use Rattle.rules.specs.Rule.{Behaviour, Laws, Ranges, Heard, Opening, lockstep}
 use Rattle.frames.specs.Book.{book_heard}
 use Rattle.protocol.specs.declared.refusal.Refusal.{Refusal}
@@ -11,8 +10,9 @@ use Rattle.protocol.specs.declared.types.Step.TheVariants.{Send, Deliver, Drop, 
 use Rattle.protocol.specs.World.{World, station}
 use Rattle.protocol.specs.Calls.{step, after, refusals, opened, state_of}
 use Rattle.protocol.specs.Tally.{Tally, heard_in, start, tally, tally_accepted}
-use Rattle.protocol.specs.Guarantee.{Guaranteed, turns_of}
+use Rattle.protocol.specs.Guarantee.{Guaranteed, accepted_turns, turns_by}
 use Rattle.protocol.proofs.Words.{book_agrees}
+use Rattle.protocol.proofs.EachTurn.{Counts, stations_of, tally_turns, tally_counts, start_counts, entry_for_each}
 use Rattle.rules.proofs.Runs.{Known, hull_stays}
 use Rattle.protocol.proofs.Invariant.{Inv, Grows, Follows}
 use Rattle.protocol.proofs.Start.{Opens, opens, started}
@@ -21,15 +21,6 @@ use Rattle.protocol.proofs.Crash.{crashed}
 use Rattle.protocol.proofs.Deliver.{delivered}
 use Rattle.protocol.proofs.Send.{sends}
 use Rattle.protocol.proofs.Turn.{turns, turn_grows}
-
-one_more : (rounds : ℕ → ℕ) (p x m : ℕ) → cond (eqb p x) (rounds x + 1) (rounds p) + m ≡ rounds p + (cond (eqb x p) 1 0 + m)
-one_more rounds p x m = elim (cases_eq p x) [
-  | inl e ↦ rw (e, eq-eqb x x refl) (omega arith)
-  | inr e ↦ rw (ne_eqb p x e, ne_eqb x p (λ z. e (sym z))) (omega arith)
-]
-
-no_turn : (r m : ℕ) → r + m ≡ r + (0 + m)
-no_turn r m = omega arith
 
 module _ {S L : Type 0} (R : Behaviour S L) (values : List ℕ) where
   abbrev Grown : Tally → Tally → Type 0
@@ -46,18 +37,6 @@ module _ {S L : Type 0} (R : Behaviour S L) (values : List ℕ) where
   call_grows t known (Repeat x) k q h = (h, refl)
   call_grows t known (Turn p) k q h = turn_grows R values t known p k q h
   call_grows t known (Crash p) k q h = (h, refl)
-
-  rounds_count : (p : ℕ) (t : Tally) (cs : List Step) (fs : List (Option Refusal)) → (tally R values t cs fs).rounds p ≡ t.rounds p + turns_of p cs fs
-  unfolding tally tally_accepted
-  rounds_count p t [] fs = omega arith
-  rounds_count p t (c ∷ cs) [] = omega arith
-  rounds_count p t (c ∷ cs) (Some f ∷ fs) = rounds_count p t cs fs
-  rounds_count p t (Send x ∷ cs) (None ∷ fs) = rounds_count p (tally_accepted R values t (Send x)) cs fs ∙ no_turn (t.rounds p) (turns_of p cs fs)
-  rounds_count p t (Deliver x ∷ cs) (None ∷ fs) = rounds_count p (tally_accepted R values t (Deliver x)) cs fs ∙ no_turn (t.rounds p) (turns_of p cs fs)
-  rounds_count p t (Drop x ∷ cs) (None ∷ fs) = rounds_count p (tally_accepted R values t (Drop x)) cs fs ∙ no_turn (t.rounds p) (turns_of p cs fs)
-  rounds_count p t (Repeat x ∷ cs) (None ∷ fs) = rounds_count p (tally_accepted R values t (Repeat x)) cs fs ∙ no_turn (t.rounds p) (turns_of p cs fs)
-  rounds_count p t (Turn x ∷ cs) (None ∷ fs) = rounds_count p (tally_accepted R values t (Turn x)) cs fs ∙ one_more t.rounds p x (turns_of p cs fs)
-  rounds_count p t (Crash x ∷ cs) (None ∷ fs) = rounds_count p (tally_accepted R values t (Crash x)) cs fs ∙ no_turn (t.rounds p) (turns_of p cs fs)
 
   after_append : (w : World S L) (cs ds : List Step) → after R w (cs ++ ds) ≡ after R (after R w cs) ds
   unfolding after
@@ -103,12 +82,15 @@ guaranteed {S} {L} R letter_fits face laws ranges new values small fine calls =
     let u : Tally = tally R values start calls (refusals R w calls) in
     let i : Inv R values B v u = (run R laws ranges values small few B calls w start (started R face new values fine)).0 in
     let H : Heard = heard_in u.triples in
+    let turns : stations_of u.triples ≡ accepted_turns calls (refusals R w calls) = tally_turns R values calls (refusals R w calls) start in
+    let counts : Counts u = tally_counts R values calls (refusals R w calls) start start_counts in
     let state : (p : ℕ) → p < length values → state_of R v p ≡ lockstep R values H (u.rounds p) p = λ p h. (i.seats p h).state in
     let hull : (p x : ℕ) → p < length values → R.hull (state_of R v p) ≡ Some x → R.hull (lockstep R values H (u.rounds p) p) ≡ Some x = λ p x h e. sym (ap R.hull (state p h)) ∙ e in
     record {
+      in_order = rw (i.entries_are, i.book_is) (entry_for_each u (accepted_turns calls (refusals R w calls)) (B - length u.triples) turns i.whole counts);
       recorded = rw (length-replicate {A = ℕ} (length new.book) 0) i.book_is;
-      entered = i.entries_are;
-      counted = λ p h. (i.seats p h).round ∙ rounds_count R values p start calls (refusals R w calls) ∙ omega arith;
+      filled = i.entries_are;
+      counted = λ p h. (i.seats p h).round ∙ counts.rounds p ∙ ap (turns_by p) turns;
       limited = λ p h. omega (arith, (i.seats p h).round, (i.seats p h).limit);
       refined = λ p h.
           let same : book_heard v.book ≡ H = ap book_heard i.book_is ∙ fun_ext (λ x. fun_ext (λ k. fun_ext (λ q. book_agrees u.triples (B - length u.triples) x k q i.whole))) in

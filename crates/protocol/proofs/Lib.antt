@@ -3,6 +3,7 @@ pub mod Rows
 pub mod Outcomes
 pub mod Judgements
 pub mod Words
+pub mod EachTurn
 pub mod Holds
 pub mod Invariant
 pub mod Start

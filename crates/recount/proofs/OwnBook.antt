@@ -53,7 +53,7 @@ agrees {S} {L} R {letter_fits} face laws ranges values small words round b answe
     let go : run_refusal R.most (length values) (shortest b) (ltb 4095 round) ≡ None = accepts R.most (length values) (shortest b) round o.some o.few long limit in
     let came : ◌≡◌ {A = Result ℕ Refusal × List S} (answer, cells) (Ok round, recounted R values words round b.states) =
     call ∙ ap (λ r. attempt b.states r round (recounted R values words round b.states)) go in
-    let count : w.entries + own.0 ≡ length (map entry ts) + own.0 = omega (arith, g.entered, length-map ts entry) in
+    let count : w.entries + own.0 ≡ length (map entry ts) + own.0 = omega (arith, g.filled, length-map ts entry) in
     let j : ℕ = length (opened R fresh values).book - length ts in
     let book : w.book ≡ map entry ts ++ replicate j 0 = g.recorded in
     let mine : words ≡ take (length (map entry ts) + own.0) (map entry ts ++ replicate j 0) = own.1 ∙ ap (λ m. take m w.book) count ∙ ap (take (length (map entry ts) + own.0)) book in

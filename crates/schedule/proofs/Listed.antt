@@ -74,7 +74,7 @@ module _ {S L : Type 0} (R : Behaviour S L) (new : World S L) (values : List ℕ
         let g : Guarantee R values (begun R new values steps) steps = ran.guaranteed in
         let ts : List Triple = (tally R values start steps (refusals R (begun R new values steps) steps)).triples in
         let whole : length (over R new values steps).book ≡ length (map entry ts) + length (replicate {A = ℕ} (length (begun R new values steps).book - length ts) 0) = ap length g.recorded ∙ length-append (map entry ts) _ in
-        omega (arith, counted, ap length book_is, whole, length-map ts entry, g.entered)
+        omega (arith, counted, ap length book_is, whole, length-map ts entry, g.filled)
 
     pub few : Interface R → length values ≤ 16
     few face = omega (arith, face.most_few, (accepted R new values ran.opens).few)
