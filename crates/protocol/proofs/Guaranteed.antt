@@ -20,6 +20,7 @@ use Rattle.protocol.proofs.Pool.{dropped, repeated}
 use Rattle.protocol.proofs.Crash.{crashed}
 use Rattle.protocol.proofs.Deliver.{delivered}
 use Rattle.protocol.proofs.Send.{sends}
+use Rattle.protocol.proofs.Sizes.{after_sizes, looks}
 use Rattle.protocol.proofs.Turn.{turns, turn_grows}
 
 module _ {S L : Type 0} (R : Behaviour S L) (values : List ℕ) where
@@ -92,6 +93,8 @@ guaranteed {S} {L} R letter_fits face laws ranges new values small fine calls =
       filled = i.entries_are;
       counted = λ p h. (i.seats p h).round ∙ counts.rounds p ∙ ap (turns_by p) turns;
       limited = λ p h. omega (arith, (i.seats p h).round, (i.seats p h).limit);
+      sized = after_sizes R w calls;
+      seen = λ p h. looks R new values calls p fine h;
       refined = λ p h.
           let same : book_heard v.book ≡ H = ap book_heard i.book_is ∙ fun_ext (λ x. fun_ext (λ k. fun_ext (λ q. book_agrees u.triples (B - length u.triples) x k q i.whole))) in
           state p h ∙ ap (λ k. lockstep R values H k p) (sym (i.seats p h).round) ∙ ap (λ (G : Heard). lockstep R values G (station v p).round p) (sym same);

@@ -13,4 +13,5 @@ pub mod Crash
 pub mod Deliver
 pub mod Send
 pub mod Turn
+pub mod Sizes
 pub mod Guaranteed

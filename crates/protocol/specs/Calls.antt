@@ -234,10 +234,14 @@ module _ {S L : Type 0} (R : Behaviour S L) where
   abbrev pub look_refusal : World S L → ℕ → Option Refusal
   look_refusal w p = first_refusal (look_tests w p)
 
-  abbrev pub look_call : World S L → ℕ → Result Sight Refusal × World S L
-  look_call w p =
+  -- what is seen of station p
+  abbrev pub sight_of : World S L → ℕ → Sight
+  sight_of w p =
       let s : StationRecord = station w p in
-      attempt w (look_refusal w p) (record { stand = s.stand; round = s.round; hull = R.hull (state_of w p) }) w
+      record { stand = s.stand; round = s.round; hull = R.hull (state_of w p) }
+
+  abbrev pub look_call : World S L → ℕ → Result Sight Refusal × World S L
+  look_call w p = attempt w (look_refusal w p) (sight_of w p) w
 
   -- ---- lists of calls
   -- a call's refusal or none, and what it leaves

@@ -1,12 +1,12 @@
 -- What is found after every list of a planner's calls, for every rule that keeps its laws.
-use Rattle.std.specs.Prelude.{◌≡◌, ℕ, ◌-◌, ◌^◌, ◌<◌, ◌≤◌, List, [], ◌∷◌, ◌++◌, map, length, take, replicate, count_by, Some, None, Option, ◌==◌, slice_index}
+use Rattle.std.specs.Prelude.{◌≡◌, ℕ, ◌-◌, ◌^◌, ◌<◌, ◌≤◌, List, [], ◌∷◌, ◌++◌, map, length, take, replicate, count_by, Some, None, Ok, Option, ◌==◌, slice_index}
 use Rattle.rules.specs.Rule.{Behaviour, Interface, Laws, Ranges, lockstep}
 use Rattle.protocol.specs.declared.refusal.Refusal.{Refusal}
 use Rattle.protocol.specs.declared.types.Step.{Step}
 use Rattle.protocol.specs.declared.types.Step.TheVariants.{Send, Deliver, Drop, Repeat, Turn, Crash}
 use Rattle.frames.specs.Book.{pack_entry, read_entry, book_heard}
 use Rattle.protocol.specs.World.{World, station}
-use Rattle.protocol.specs.Calls.{open_refusal, opened, after, refusals, state_of}
+use Rattle.protocol.specs.Calls.{open_refusal, opened, after, refusals, state_of, sight_of, look_call}
 use Rattle.protocol.specs.Tally.{Tally, Triple, start, tally}
 
 -- ---- the accepted turns of a list of calls
@@ -36,6 +36,17 @@ pub record EntryForEach (turns : List ℕ) (entries : ℕ) (book : List ℕ) : T
   pub as_many : entries ≡ length turns
   pub station : (i : ℕ) → i < length turns → (read_entry (slice_index book i)).0 ≡ slice_index turns i
   pub round : (i : ℕ) → i < length turns → (read_entry (slice_index book i)).1 ≡ turns_by (slice_index turns i) (take i turns)
+
+-- ---- what no call changes
+-- the number of stations, the lengths at opening, and how long each buffer is
+pub record SameSizes {S L : Type 0} (w v : World S L) : Type 0 where
+  pub n : v.n ≡ w.n
+  pub pool_len : v.pool_len ≡ w.pool_len
+  pub book_len : v.book_len ≡ w.book_len
+  pub states : length v.states ≡ length w.states
+  pub letters : length v.letters ≡ length w.letters
+  pub pool : length v.pool ≡ length w.pool
+  pub book : length v.book ≡ length w.book
 
 -- ---- the guarantee
 -- the book's word of a triple
@@ -71,6 +82,9 @@ module _ {S L : Type 0} (R : Behaviour S L) (values : List ℕ) (w : World S L) 
     -- each station's round is the number of its accepted turns, and none is past the last
     pub counted : (p : ℕ) → p < length values → round_of calls p ≡ turns_by p (turns_in calls)
     pub limited : (p : ℕ) → p < length values → round_of calls p ≤ 4095
+    -- no call changes a size, and a look at a station is never refused: it answers the stand, the round and the hull or none
+    pub sized : SameSizes w (left calls)
+    pub seen : (p : ℕ) → p < length values → look_call R (left calls) p ≡ (Ok (sight_of R (left calls) p), left calls)
     -- one lockstep run, over the senders that the book names, gives each station's state at its round
     pub refined : (p : ℕ) → p < length values → state_of R (left calls) p ≡ lockstep R values (book_heard (left calls).book) (round_of calls p) p
     -- no two stations show different hulls, crashed ones too

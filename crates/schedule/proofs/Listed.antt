@@ -1,6 +1,6 @@
 -- A run that was carried out, and the listing that is made of it.
-use Rattle.std.proofs.Common.{◌≡◌, ℕ, zero, suc, ◌+◌, ◌-◌, ◌<◌, ◌≤◌, List, [], ◌∷◌, map, length, take, replicate, Some, None, Err, Option, sym, refl, ap, ◌∙◌, arith}
-use Rattle.std.proofs.lemmas.List.{length-append, length-map}
+use Rattle.std.proofs.Common.{◌≡◌, ℕ, zero, suc, ◌+◌, ◌-◌, ◌<◌, ◌≤◌, List, [], ◌∷◌, map, length, take, replicate, Some, None, Ok, Err, Option, sym, refl, ap, ◌∙◌, arith}
+use Rattle.std.proofs.lemmas.List.{length-append, length-map, length-replicate}
 use Rattle.lists.specs.Lists.{tabulate}
 use Rattle.rules.specs.Rule.{Behaviour, Interface}
 use Rattle.lists.proofs.Options.{none_some}
@@ -9,7 +9,8 @@ use Rattle.protocol.specs.declared.refusal.Refusal.{Refusal}
 use Rattle.protocol.specs.declared.types.Sight.{Sight}
 use Rattle.protocol.specs.declared.types.Step.{Step}
 use Rattle.protocol.specs.World.{World}
-use Rattle.protocol.specs.Calls.{look_refusal, step, refusals}
+use Rattle.protocol.specs.Calls.{look_refusal, look_call, sight_of, step, refusals}
+use Rattle.protocol.proofs.Outcomes.{was_accepted}
 use Rattle.protocol.specs.Tally.{Triple, start, tally}
 use Rattle.protocol.specs.Guarantee.{Guarantee, entry}
 use Rattle.shed_core.specs.declared.shed.Shed.{Shed}
@@ -22,7 +23,7 @@ use Rattle.listing.specs.declared.printer.RefusedStep.{RefusedStep}
 use Rattle.listing.specs.Listing.{listing_text}
 use Rattle.schedule.specs.Program.{refused_from, sight, sights, begun, over, run_listing, hull_at, ListsOneHull}
 use Rattle.schedule.specs.Running.{Seen, Listed, Runs}
-use Rattle.schedule.proofs.Sizes.{looks, accepted, book_length}
+use Rattle.schedule.proofs.Sizes.{accepted}
 
 -- each call of a list has its place in the list of refusals
 length_refusals : {S L : Type 0} (R : Behaviour S L) (w : World S L) (steps : List Step) → length (refusals R w steps) ≡ length steps
@@ -55,7 +56,9 @@ module _ {S L : Type 0} (R : Behaviour S L) (new : World S L) (values : List ℕ
       (ran : CarriedOut R values steps new blank s left told) where
     looked : (f : Refusal) → (q : ℕ) × (q < length values) × (look_refusal R (world_of s left) q ≡ Some f) → ⊥
     looked f at =
-        let fine : look_refusal R (over R new values steps) at.0 ≡ None = looks R new values steps at.0 ran.opens at.1 in
+        let w : World S L = over R new values steps in
+        let seen : look_call R w at.0 ≡ (Ok (sight_of R w at.0), w) = ran.guaranteed.seen at.0 at.1 in
+        let fine : look_refusal R w at.0 ≡ None = (was_accepted w w (sight_of R w at.0) (look_refusal R w at.0) (sight_of R w at.0) (sym (ap (λ o. o.0) seen))).0 in
         none_some (sym fine ∙ ap (λ w. look_refusal R w at.0) (sym ran.leaves) ∙ at.2)
 
     -- a look is refused nothing, so only want of memory stops it
@@ -80,7 +83,7 @@ module _ {S L : Type 0} (R : Behaviour S L) (new : World S L) (values : List ℕ
     few face = omega (arith, face.most_few, (accepted R new values ran.opens).few)
 
     pub book_few : length left.book.now ≤ 65536
-    book_few = omega (arith, ap length book_is, book_length R new values steps, (accepted R new values ran.opens).book)
+    book_few = omega (arith, ap length book_is, ran.guaranteed.sized.book, length-replicate {A = ℕ} (length new.book) 0, (accepted R new values ran.opens).book)
 
     -- where there is a cell for each step, each outcome is told
     all_told : length blank ≡ length steps → told ≡ refusals R (begun R new values steps) steps
