@@ -1,5 +1,5 @@
 -- What is found after every list of a planner's calls, for every rule that keeps its laws.
-use Rattle.std.specs.Prelude.{◌≡◌, ℕ, ◌-◌, ◌^◌, ◌<◌, ◌≤◌, List, [], ◌∷◌, ◌++◌, map, length, take, replicate, count_by, Some, None, Ok, Option, ◌==◌, slice_index}
+use Rattle.std.specs.Prelude.{◌≡◌, ℕ, ◌-◌, ◌^◌, ◌<◌, ◌≤◌, Bool, List, [], ◌∷◌, ◌++◌, map, length, take, replicate, count_by, Some, None, Ok, Option, ◌==◌, slice_index}
 use Rattle.rules.specs.Rule.{Behaviour, Interface, Laws, Ranges, lockstep}
 use Rattle.protocol.specs.declared.refusal.Refusal.{Refusal}
 use Rattle.protocol.specs.declared.types.Step.{Step}
