@@ -10,6 +10,8 @@ use Rattle.protocol.specs.Tally.{tally, tally_accepted}
 use Rattle.worked_examples.specs.Rules.{ThirdExamples, LastExamples}
 use Rattle.worked_examples.specs.Words.{WordExamples}
 use Rattle.worked_examples.specs.Calls.{begin, run, RunExample, FateExamples, RefusalExamples, CallExamples}
+use Rattle.schedule_text.specs.Reading.{pieces, read_lines, read_text}
+use Rattle.worked_examples.specs.Texts.{TextExamples}
 use Rattle.worked_examples.proofs.Hearing.{any_two_of_three, any_three_of_four}
 
 pub third_rounds : ThirdExamples
@@ -72,3 +74,15 @@ refused = record {
 
 pub calls : CallExamples
 calls = record { a_run = a_run; fates = fates; refused = refused }
+
+pub texts : TextExamples
+unfolding read_text read_lines pieces
+texts = record {
+  reads = refl;
+  no_text = refl;
+  lone_end = refl;
+  no_steps = refl;
+  wrong_values = refl;
+  wrong_step = refl;
+  cut_short = refl;
+}

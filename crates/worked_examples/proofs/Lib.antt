@@ -1,3 +1,4 @@
 pub mod Computed
 pub mod Hearing
+pub mod Planned
 pub mod Settled

@@ -1,3 +1,4 @@
 pub mod Rules
 pub mod Words
 pub mod Calls
+pub mod Texts

@@ -6,6 +6,7 @@ ghost use Rattle.std.specs.Prelude.{◌≡◌, Some, map};
 ghost use Rattle.worked_examples.specs.Rules.{ThirdExamples, LastExamples, third_states, last_states, unpacked};
 ghost use Rattle.worked_examples.specs.Words.{WordExamples, words};
 ghost use Rattle.worked_examples.specs.Calls.{CallExamples, told, settled, book_words};
+ghost use Rattle.worked_examples.specs.Texts.{TextExamples, IsPlanned, two_steps_plan};
 
 use conduct::conduct;
 use frames::book::pack_entry;
@@ -14,10 +15,13 @@ use last::Last;
 use protocol::refusal::Refusal;
 use protocol::types::Step;
 use rules::Rule;
+use schedule_text::reader::read_schedule;
+use schedule_text::types::{ReadError, Schedule};
 use shed_core::buffers::Buffers;
+use std::alloc::Global;
 use third::Third;
 
-// Four rounds of OneThirdRule.
+/// Four rounds of OneThirdRule.
 pub fn third_rounds() -> [third::State; 4]
     ensures states { result ≡ third_states }
     ensures examples { ThirdExamples }
@@ -43,7 +47,7 @@ fn stamped(value: u16, stamp: u16) -> Option<last::Letter>
     Some(last::Letter { value, stamp })
 }
 
-// Three first rounds of LastVoting.
+/// Three first rounds of LastVoting.
 pub fn last_rounds() -> [last::State; 3]
     ensures states { result ≡ last_states }
     ensures examples { LastExamples }
@@ -59,7 +63,7 @@ pub fn last_rounds() -> [last::State; 3]
     ]
 }
 
-// The last stamp unpacks, and one more does not.
+/// The last stamp unpacks, and one more does not.
 pub fn unpacked_stamps() -> [Option<last::Letter>; 2]
     ensures { result ≡ unpacked }
 {
@@ -70,7 +74,7 @@ pub fn unpacked_stamps() -> [Option<last::Letter>; 2]
     ]
 }
 
-// A frame of each rule, and an entry.
+/// A frame of each rule, and an entry.
 #[tactic(auto, unfolding(frames::specs::Frame::pack_frame, frames::specs::Book::pack_entry))]
 pub fn packed_words() -> [Option<u64>; 3]
     ensures packed { result ≡ map Some words }
@@ -91,16 +95,19 @@ pub fn packed_words() -> [Option<u64>; 3]
     ]
 }
 
-// What a run comes to: each step's refusal or none, the stations' hulls, and the book.
+/// What a run of sixteen steps of two stations comes to.
 #[derive(Clone, Copy)]
 pub struct RunOutcome {
+    /// Of each step, or none.
     pub refusals: [Option<Refusal>; 16],
+    /// Of each station, or none.
     pub hulls: [Option<u16>; 2],
+    /// The four entries, and what is left.
     pub book: [u64; 6],
 }
 
-// Two stations that open with 9 and 7 under OneThirdRule and settle 7: the eighth step finds a station that holds a letter,
-// and the last one a fresh station.
+/// Two stations that open with 9 and 7 under OneThirdRule and settle 7: the eighth step finds a station that holds a letter,
+/// and the last one a fresh station.
 pub fn two_stations() -> RunOutcome
     ensures refusals { result.refusals ≡ told }
     ensures hulls { result.hulls ≡ settled }
@@ -146,4 +153,13 @@ pub fn two_stations() -> RunOutcome
         hulls: [first.hull, second.hull],
         book,
     }
+}
+
+/// A schedule of two steps from its text. Fails only out of memory.
+#[tactic(auto, using(crate::proofs::Planned::planned))]
+pub fn read_two_steps(heap: Global) -> Result<Schedule, ReadError>
+    ensures planned { IsPlanned two_steps_plan result }
+    ensures examples { TextExamples }
+{
+    read_schedule(heap, b"rule third\nvalues 9 7\ns 0\nd 12\n")
 }
