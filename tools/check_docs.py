@@ -240,6 +240,15 @@ def check_shown():
         wrong("README.md", 0, "what library_example prints is not shown as it is")
 
 
+def check_guarantee():
+    """The page on the guarantee names each of its parts, and no other."""
+    page = pathlib.Path("docs/GUARANTEE.md").read_text("utf-8").partition("## What it says")[2].partition("Beside it")[0]
+    spec = pathlib.Path("crates/protocol/specs/Guarantee.antt").read_text("utf-8").partition("pub record Guarantee ")[2].partition("\n\n")[0]
+    parts = set(re.findall(r"^ +pub (\w+) :", spec, re.M))
+    for name in parts ^ {name for tick in re.findall(r"\(((?:`\w+`(?:, )?)+)\)", page) for name in ticks(tick)}:
+        wrong("docs/GUARANTEE.md", 0, f"the part {name} is not told, or is none")
+
+
 def check_house():
     """The map on the first page: each crate has one sentence, and stands above those that it uses."""
     readme = pathlib.Path("README.md").read_text("utf-8")
@@ -317,6 +326,7 @@ def main():
     check_pool(pathlib.Path("docs/SCHEDULE.md"))
     check_shown()
     check_house()
+    check_guarantee()
     if "--program" in args:
         check_program(args[args.index("--program") + 1])
     print("\n".join(said + [f"{len(PAGES)} pages, {len(said)} things that are not so"]))
