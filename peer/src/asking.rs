@@ -1,110 +1,37 @@
-//! A seeded maker of what is asked of the bridge's functions: lists of calls, books, rounds, mailboxes, frames and words,
-//! valid and damaged. No document describes it; it only has to reach every corner often enough (`compare-calls` prints
-//! what it reached).
+//! A seeded maker of what is asked of both sides: lists of requests of a shed, and recounts, valid and damaged. No document
+//! describes it; it only has to reach every corner often enough (`compare-calls` prints what it reached).
 
-use crate::calls::{tell_state, Cells, Functions, LetterCell, Outcome, Reader, StateCell, LETTERS, STATES};
+use crate::calls::*;
 use crate::frames::{pack_frame, Frame};
 use crate::making::Rng;
-use crate::rules::{Last, LastLetter, Third, ThirdLetter};
+use crate::rules::{Last, LastLetter, Rule, Third, ThirdLetter};
 use crate::shed::{Bench, Refusal, Stand};
 
+/// The most opening values: more than a rule has stations, so that too many can be given.
+const VALUES: usize = 20;
+
 #[derive(Clone, Debug)]
-pub enum Input {
-    Calls { rule: u8, calls: Vec<u64>, pool: Vec<u64>, book: Vec<u64> },
-    Recount { rule: u8, values: Vec<u16>, book: Vec<u64>, round: u16, cells: Vec<StateCell>, scratch: usize, row: usize },
-    Round { rule: u8, n: usize, round: u16, heard: [[bool; 16]; 16], before: Vec<StateCell>, after: Vec<StateCell> },
-    Next { rule: u8, n: usize, station: usize, round: u16, state: StateCell, mailbox: Vec<LetterCell> },
-    Letter { rule: u8, n: usize, sender: usize, round: u16, state: StateCell, receiver: usize },
-    Frame { rule: u8, n: usize, sender: usize, receiver: usize, round: u16, letter: LetterCell, word: u64 },
-    Entry { station: usize, round: u16, heard: [bool; 16], word: u64 },
-    /// Some of one of the last four kinds.
-    Several(Vec<Input>),
+pub struct Input {
+    pub rule: u8,
+    pub values: Vec<u16>,
+    pub requests: Vec<Request>,
+    pub pool: Vec<u64>,
+    pub book: Vec<u64>,
 }
 
-impl Input {
-    /// What it asks, and of which rule.
-    pub fn kind(&self) -> &'static str {
-        match self {
-            Input::Calls { .. } => "calls",
-            Input::Recount { .. } => "recount",
-            Input::Round { .. } => "round",
-            Input::Next { .. } => "next",
-            Input::Letter { .. } => "letter",
-            Input::Frame { .. } => "frame words, pack and unpack",
-            Input::Entry { .. } => "entry words",
-            Input::Several(inputs) => inputs[0].kind(),
-        }
-    }
-
-    pub fn rule(&self) -> Option<u8> {
-        match self {
-            Input::Calls { rule, .. }
-            | Input::Recount { rule, .. }
-            | Input::Round { rule, .. }
-            | Input::Next { rule, .. }
-            | Input::Letter { rule, .. }
-            | Input::Frame { rule, .. } => Some(*rule),
-            Input::Entry { .. } | Input::Several(_) => None,
-        }
-    }
-}
-
-fn tell_letter(cell: &LetterCell) -> [u64; 3] {
-    [cell.value as u64, cell.stamp as u64, cell.is_there as u64]
-}
-
-/// All that one side answers and leaves, as numbers. `room` is how many numbers there is room for in a list of calls.
-pub fn answer(side: &impl Functions, input: &Input, room: usize) -> Vec<u64> {
-    let mut told = Vec::new();
-    match input {
-        Input::Calls { rule, calls, pool, book } => {
-            let (mut pool, mut book) = (pool.clone(), book.clone());
-            told = side.calls(*rule, calls, &mut pool, &mut book, room);
-            told.extend(pool);
-            told.extend(book);
-        }
-        Input::Recount { rule, values, book, round, cells, scratch, row } => {
-            let mut cells = cells.clone();
-            told.push(side.recount(*rule, values, book, *round, &mut cells, *scratch, *row) as u64);
-            cells.iter().for_each(|cell| tell_state(cell, &mut told));
-        }
-        Input::Round { rule, n, round, heard, before, after } => {
-            let mut after = after.clone();
-            told.push(side.round(*rule, *n, *round, heard, before, &mut after) as u64);
-            after.iter().for_each(|cell| tell_state(cell, &mut told));
-        }
-        Input::Next { rule, n, station, round, state, mailbox } => {
-            tell_state(&side.next(*rule, *n, *station, *round, state, mailbox), &mut told);
-        }
-        Input::Letter { rule, n, sender, round, state, receiver } => {
-            told.extend(tell_letter(&side.letter(*rule, *n, *sender, *round, state, *receiver)));
-        }
-        Input::Frame { rule, n, sender, receiver, round, letter, word } => {
-            let packed = side.pack_frame(*rule, *sender, *receiver, *round, letter);
-            told.extend([packed.word, packed.is_there as u64, side.pack(*rule, letter)]);
-            for word in [*word, packed.word] {
-                let frame = side.read_frame(*rule, *n, word);
-                told.extend([frame.sender as u64, frame.receiver as u64, frame.round as u64]);
-                told.extend(tell_letter(&frame.letter));
-                told.extend(tell_letter(&side.unpack(*rule, word % (1 << 44))));
-                told.extend(tell_letter(&side.unpack(*rule, word)));
-            }
-        }
-        Input::Entry { station, round, heard, word } => {
-            let packed = side.pack_entry(*station, *round, heard);
-            told.extend([packed.word, packed.is_there as u64]);
-            for word in [*word, packed.word] {
-                let entry = side.read_entry(word);
-                told.extend([entry.station as u64, entry.round as u64]);
-                told.extend(entry.heard.map(u64::from));
-            }
-        }
-        Input::Several(inputs) => inputs.iter().for_each(|input| told.extend(answer(side, input, room))),
-    }
+/// All that one side replies and leaves, as numbers.
+pub fn answer(side: Side, input: &Input) -> Vec<u64> {
+    // One cell more than there are requests, which has to stay.
+    let mut replies = vec![Reply { refusal: 99, answer: 99 }; input.requests.len() + 1];
+    let (mut pool, mut book) = (input.pool.clone(), input.book.clone());
+    side(input.rule, &input.values, &input.requests, &mut replies, &mut pool, &mut book);
+    let mut told: Vec<u64> = replies.iter().flat_map(|reply| [reply.refusal as u64, reply.answer as u64]).collect();
+    told.extend(pool);
+    told.extend(book);
     told
 }
 
-const STAMPS: [u16; 10] = [0, 0, 1, 1, 2, 3, 1023, 1024, 1025, 60000];
+const STAMPS: [u16; 10] = [0, 0, 1, 1, 2, 3, 1023, 1024, 1025, 2047];
 
 fn value(rng: &mut Rng) -> u16 {
     match rng.below(8) {
@@ -114,22 +41,8 @@ fn value(rng: &mut Rng) -> u16 {
     }
 }
 
-fn state(rng: &mut Rng, round: u16) -> StateCell {
-    let stamp = if rng.percent(40) { (round / 4).saturating_add(rng.below(2) as u16) } else { *rng.pick(&STAMPS) };
-    let has_hull = rng.percent(30);
-    StateCell {
-        value: value(rng),
-        stamp,
-        vote: value(rng),
-        hull: if has_hull { value(rng) } else { 0 },
-        committed: rng.percent(50),
-        ready: rng.percent(50),
-        has_hull,
-    }
-}
-
-fn letter(rng: &mut Rng) -> LetterCell {
-    LetterCell { value: value(rng), stamp: *rng.pick(&STAMPS), is_there: true }
+fn values(rng: &mut Rng, count: usize) -> Vec<u16> {
+    (0..count).map(|_| value(rng)).collect()
 }
 
 fn count(rng: &mut Rng) -> usize {
@@ -159,11 +72,7 @@ fn round(rng: &mut Rng) -> u16 {
     }
 }
 
-fn marks(rng: &mut Rng) -> [bool; 16] {
-    let part = *rng.pick(&[0, 30, 60, 80, 100]);
-    std::array::from_fn(|_| rng.percent(part))
-}
-
+/// The length of a buffer for n stations: right, mostly.
 fn about(rng: &mut Rng, n: usize) -> usize {
     match rng.below(16) {
         0 => n.saturating_sub(1).min(20),
@@ -171,22 +80,6 @@ fn about(rng: &mut Rng, n: usize) -> usize {
         2 => 20,
         _ => n.min(18) + rng.below(3),
     }
-}
-
-fn states(rng: &mut Rng, count: usize, round: u16) -> Vec<StateCell> {
-    (0..count).map(|_| state(rng, round)).collect()
-}
-
-fn book_word(rng: &mut Rng, n: usize, rounds: usize) -> u64 {
-    if rng.percent(5) {
-        return rng.word();
-    }
-    let p = if rng.percent(95) { rng.below(n.clamp(1, 16)) } else { rng.below(16) };
-    let round = rng.below(rounds.clamp(1, 4096));
-    let heard = marks(rng).iter().fold(0, |set, on| set * 2 + *on as u64);
-    let low = if rng.percent(10) { rng.word() >> 32 } else { 0 };
-    // Not by the peer's own packing, so that a wrong version of that shows as a difference.
-    (p as u64) << 60 | (round as u64) << 48 | heard << 32 | low
 }
 
 /// A rule's number.
@@ -198,114 +91,122 @@ fn rule(rng: &mut Rng) -> u8 {
     }
 }
 
-fn recount_input(rng: &mut Rng) -> Input {
+/// What is asked of the state in a cell: its hull, and its letters in any round to any station. The rounds that tell most of
+/// a state are those of the phase that the station leads.
+fn ask_state(rng: &mut Rng, n: usize, cell: usize, requests: &mut Vec<Request>) {
+    let lent = Request { at: cell, states: usize::MAX, ..Request::default() };
+    requests.push(Request { kind: HULL, ..lent });
+    for step in 0..4 {
+        let round = cell as u16 * 4 + step;
+        requests.push(Request { kind: LETTER, n, station: cell, round, receiver: cell, ..lent });
+    }
+    for _ in 0..3 {
+        let n = if rng.percent(80) { n } else { count(rng) };
+        let k = round(rng);
+        // Often the coordinator of the round's phase at one end.
+        let lead = (k as usize / 4) % n.max(1);
+        let sender = if rng.percent(40) { lead } else { station(rng, n) };
+        let receiver = if rng.percent(40) { lead } else { station(rng, n) };
+        requests.push(Request { kind: LETTER, n, station: sender, round: k, receiver, ..lent });
+    }
+}
+
+fn book_word(rng: &mut Rng, n: usize, rounds: usize, part: usize) -> u64 {
+    if rng.percent(5) {
+        return rng.word();
+    }
+    let p = if rng.percent(95) { rng.below(n.clamp(1, 16)) } else { rng.below(16) };
+    let round = rng.below(rounds.clamp(1, 4096));
+    let heard = (0..16).fold(0, |set, _| set * 2 + rng.percent(part) as u64);
+    let low = if rng.percent(10) { rng.word() >> 32 } else { 0 };
+    // Not by the peer's own packing, so that a wrong version of that shows as a difference.
+    (p as u64) << 60 | (round as u64) << 48 | heard << 32 | low
+}
+
+/// Some recounts over one book, of which each leaves its states to the next, and what is seen of the states.
+fn recounts(rng: &mut Rng) -> Input {
     let n = count(rng).min(20);
     let upto = match rng.below(30) {
         0 | 2 => *rng.pick(&[4095, 4096, 65535]),
         1 => rng.below(4096) as u16,
         _ => rng.below(20) as u16,
     };
-    let values = (0..n).map(|_| value(rng)).collect();
-    let words = if rng.percent(95) { rng.below(1 + n * (upto as usize).min(20) * 3 / 2 + 3) } else { rng.below(3000) };
-    let book = if rng.percent(20) {
-        vec![0; rng.below(4)].into_iter().chain((0..words).map(|_| book_word(rng, n, upto as usize + 1))).collect()
-    } else {
-        (0..words).map(|_| book_word(rng, n, upto as usize + 1)).collect()
-    };
-    let cells = about(rng, n);
-    Input::Recount { rule: rule(rng), values, book, round: upto, cells: states(rng, cells, 0), scratch: about(rng, n), row: about(rng, n) }
+    let rounds = upto as usize + 1;
+    let words = if rng.percent(95) { rng.below(1 + n * rounds.min(20) * 3 / 2 + 3) } else { rng.below(3000) };
+    let part = *rng.pick(&[30, 60, 80, 100]);
+    let mut book: Vec<u64> = (0..words).map(|_| book_word(rng, n, rounds, part)).collect();
+    if rng.percent(20) {
+        book.splice(0..0, vec![0; rng.below(4)]);
+    }
+    let mut requests = Vec::new();
+    for _ in 0..rng.from(1, 4) {
+        let round = if rng.percent(70) { upto } else { rng.below(rounds) as u16 };
+        let (states, letters, pool) = (about(rng, n), about(rng, n), about(rng, n));
+        let book = if rng.percent(80) { usize::MAX } else { rng.below(words + 1) };
+        requests.push(Request { kind: RECOUNT, round, states, letters, pool, book, ..Request::default() });
+        for cell in 0..=STATES {
+            ask_state(rng, n, cell, &mut requests);
+        }
+    }
+    Input { rule: rule(rng), values: values(rng, n), requests, pool: vec![7; 3], book }
 }
 
-fn round_input(rng: &mut Rng) -> Input {
-    let n = count(rng);
-    let k = round(rng);
-    let (before, after) = (about(rng, n), about(rng, n));
-    let heard = std::array::from_fn(|_| marks(rng));
-    Input::Round { rule: rule(rng), n, round: k, heard, before: states(rng, before, k), after: states(rng, after, k) }
-}
-
-fn next_input(rng: &mut Rng) -> Input {
-    let n = count(rng);
-    let k = round(rng);
-    let places = if rng.percent(90) { n.min(20) } else { rng.below(22) };
-    let part = *rng.pick(&[20, 50, 60, 70, 90, 100]);
-    let some = *rng.pick(&[1, 2, 4]);
-    let alike: Vec<LetterCell> = (0..some).map(|_| letter(rng)).collect();
-    let mailbox = (0..places)
-        .map(|_| match rng.percent(part) {
-            true if rng.percent(75) => *rng.pick(&alike),
-            true => letter(rng),
-            false => LetterCell::default(),
-        })
-        .collect();
-    Input::Next { rule: rule(rng), n, station: station(rng, n), round: k, state: state(rng, k), mailbox }
-}
-
-fn letter_input(rng: &mut Rng) -> Input {
-    let n = count(rng);
-    let k = round(rng);
-    // Often the coordinator of the round's phase at one end.
-    let lead = (k as usize / 4) % n.max(1);
-    let sender = if rng.percent(40) { lead } else { station(rng, n) };
-    let receiver = if rng.percent(40) { lead } else { station(rng, n) };
-    Input::Letter { rule: rule(rng), n, sender, round: k, state: state(rng, k), receiver }
-}
-
-fn packed(rng: &mut Rng, rule: u8, n: usize) -> u64 {
-    let (sender, receiver, round) = (station(rng, n) % 16, station(rng, n) % 16, round(rng) % 4096);
-    let cell = letter(rng);
+/// A frame's word, mostly of n stations and of about the round.
+fn packed(rng: &mut Rng, rule: u8, n: usize, sender: usize, receiver: usize, round: u16) -> u64 {
+    let (value, stamp) = (value(rng), *rng.pick(&STAMPS));
+    let (sender, receiver, round) = (sender % 16, receiver % 16, round % 4096);
     let word = match rule {
-        0 => pack_frame(&Third, &Frame { sender, receiver, round, letter: ThirdLetter { value: cell.value } }),
-        _ => pack_frame(&Last, &Frame { sender, receiver, round, letter: LastLetter { value: cell.value, stamp: cell.stamp } }),
+        0 => pack_frame(&Third, &Frame { sender, receiver, round, letter: ThirdLetter { value } }),
+        _ => pack_frame(&Last, &Frame { sender, receiver, round, letter: LastLetter { value, stamp } }),
     };
     let word = word.unwrap_or(0);
-    match rng.below(10) {
+    match rng.below(24) {
         0 => word ^ (1 << rng.below(64)),
         1 => word | (rng.below(2048) as u64) << 17,
         2 => rng.word(),
         3 => 0,
+        4 => word | (station(rng, n) as u64 % 16) << 60,
         _ => word,
     }
 }
 
-fn frame_input(rng: &mut Rng) -> Input {
-    let n = count(rng);
-    let rule = rule(rng);
-    let word = packed(rng, rule, n);
-    Input::Frame { rule, n, sender: station(rng, n), receiver: station(rng, n), round: round(rng), letter: letter(rng), word }
-}
-
-fn entry_input(rng: &mut Rng) -> Input {
-    let n = count(rng);
-    Input::Entry { station: station(rng, n), round: round(rng), heard: marks(rng), word: book_word(rng, 16, 4096) }
-}
-
-/// A shed that the maker plays along on, so that it knows what would happen, and the numbers of the calls so far.
-struct Player<R: Cells> {
+/// A shed that the maker plays along on, so that it knows what would happen, and the requests so far.
+struct Player<R: Rule> {
     bench: Bench<R>,
     rule: u8,
+    values: Vec<u16>,
     n: usize,
-    /// The lengths that the buffers are lent with, and the numbers.
+    /// The lengths that the buffers are lent with.
     lengths: [usize; 4],
-    numbers: Vec<u64>,
-    /// How many of a hundred calls are told whole, and how many are damaged.
+    requests: Vec<Request>,
+    /// After how many of a hundred calls all is looked at, and how many are damaged.
     whole: usize,
     damage: usize,
 }
 
-impl<R: Cells> Player<R> {
-    fn lent(&mut self, rng: &mut Rng, lengths: [usize; 4], call: usize, k: usize, rest: &[u64]) -> Outcome {
-        let whole = rng.percent(self.whole);
-        let mut numbers = vec![whole as u64];
-        numbers.extend(lengths.map(|length| length as u64));
-        numbers.extend([call as u64, k as u64]);
-        numbers.extend(rest);
-        self.numbers.extend(&numbers);
-        self.bench.make(&mut Reader::new(&numbers), &mut Vec::new()).1
+impl<R: Rule> Player<R> {
+    fn lent(&mut self, lengths: [usize; 4], kind: u8, at: usize, word: u64) -> Reply {
+        let [states, letters, pool, book] = lengths;
+        let request = Request { kind, at, word, states, letters, pool, book, ..Request::default() };
+        self.requests.push(request);
+        self.bench.make(&self.values, &request)
+    }
+
+    /// All that is seen: the stations, and the cells of states and letters.
+    fn look_around(&mut self, rng: &mut Rng) {
+        for p in 0..=STATES {
+            self.lent(self.lengths, LOOK, p, 0);
+        }
+        for cell in 0..self.n + 1 {
+            ask_state(rng, self.n, cell, &mut self.requests);
+        }
+        for cell in 0..self.n * (self.n + 1) + 1 {
+            self.lent(self.lengths, CELL, cell, 0);
+        }
     }
 
     /// A call, with the right lengths or sometimes with others.
-    fn call(&mut self, rng: &mut Rng, call: usize, k: usize) -> Outcome {
+    fn call(&mut self, rng: &mut Rng, kind: u8, k: usize) -> Reply {
         let mut lengths = self.lengths;
         if rng.percent(self.damage) {
             let which = rng.below(4);
@@ -313,36 +214,44 @@ impl<R: Cells> Player<R> {
             let low = [self.n.saturating_sub(1), (self.n * (self.n + 1)).saturating_sub(1), short, short][which];
             lengths[which] = *rng.pick(&[low, low, 0, lengths[which] + 1, usize::MAX]);
         }
-        self.lent(rng, lengths, call, k, &[])
-    }
-
-    fn open(&mut self, rng: &mut Rng, lengths: [usize; 4], count: usize) {
-        let opening: Vec<u64> = (0..count).map(|_| value(rng) as u64).collect();
-        self.lent(rng, lengths, 0, count, &opening);
-    }
-
-    /// Others write into a cell; seldom into one of the pool that is read later, but often enough.
-    fn write(&mut self, rng: &mut Rng) {
-        let which = rng.below(5).min(4);
-        let mut rest = vec![0];
-        match which {
-            0 => {
-                rest[0] = rng.below(self.n + 2) as u64;
-                tell_state(&state(rng, 0), &mut rest);
-            }
-            1 => {
-                rest[0] = rng.below(self.n * (self.n + 1) + 2) as u64;
-                let cell = letter(rng);
-                rest.extend([cell.value as u64, cell.stamp as u64]);
-            }
-            2 | 4 => {
-                let spoiled = rng.percent(40) as u64;
-                rest = vec![rng.below(self.bench.shed.c + 1) as u64, packed(rng, self.rule, self.n) | spoiled]
-            }
-            _ => rest = vec![rng.below(self.bench.shed.e + 2) as u64, rng.word()],
+        let reply = self.lent(lengths, kind, k, 0);
+        if rng.percent(self.whole) {
+            self.look_around(rng);
         }
-        let which = if which == 4 { 2 } else { which };
-        self.lent(rng, self.lengths, 7, which, &rest);
+        reply
+    }
+
+    /// A word is written into the pool; seldom where it is read later, but often enough.
+    fn write(&mut self, rng: &mut Rng) {
+        let (sender, receiver, round) = (station(rng, self.n), station(rng, self.n), round(rng));
+        let spoiled = rng.percent(30) as u64;
+        let word = packed(rng, self.rule, self.n, sender, receiver, round) | spoiled;
+        let place = rng.below(self.bench.shed.c + 1);
+        self.lent(self.lengths, WRITE, place, word);
+    }
+
+    /// Letters that nobody wrote reach a station that listens, which then turns: any mailbox, so any state.
+    fn forge(&mut self, rng: &mut Rng) {
+        for p in self.stands(Stand::Fresh) {
+            self.call(rng, SEND, p);
+        }
+        let listening = self.stands(Stand::Listening);
+        if listening.is_empty() || self.bench.shed.c == 0 {
+            return;
+        }
+        let p = *rng.pick(&listening);
+        let round = self.bench.shed.records[p].round;
+        for q in 0..self.n {
+            if rng.percent(75) && self.bench.shed.c > 0 {
+                let round = if rng.percent(95) { round } else { round + rng.below(3) as u16 };
+                let word = packed(rng, self.rule, self.n, q, p, round);
+                self.lent(self.lengths, WRITE, 0, word);
+                if self.call(rng, DELIVER, 0).refusal != 0 {
+                    self.call(rng, DROP, 0);
+                }
+            }
+        }
+        self.call(rng, TURN, p);
     }
 
     fn stands(&self, stand: Stand) -> Vec<usize> {
@@ -353,34 +262,24 @@ impl<R: Cells> Player<R> {
     fn before_opening(&mut self, rng: &mut Rng) {
         for _ in 0..rng.from(1, 6) {
             let mut lengths = self.lengths;
+            let mut count = self.n;
             match rng.below(9) {
-                0 => self.open(rng, lengths, 0),
+                0 => count = 0,
                 1 => {
-                    let count = rng.from(17, 20);
-                    self.open(rng, [STATES, LETTERS, lengths[2], lengths[3]], count)
+                    count = rng.from(17, VALUES);
+                    (lengths[0], lengths[1]) = (STATES, LETTERS);
                 }
-                2 => {
-                    lengths[2] = 0;
-                    self.open(rng, lengths, self.n)
-                }
-                3 => {
-                    lengths[2] = usize::MAX;
-                    lengths[3] = usize::MAX;
-                    self.open(rng, lengths, self.n)
-                }
-                4 => {
-                    lengths[0] = self.n - 1;
-                    self.open(rng, lengths, self.n)
-                }
-                5 => {
-                    lengths[1] = self.n * (self.n + 1) - 1;
-                    self.open(rng, lengths, self.n)
-                }
+                2 => lengths[2] = 0,
+                3 => (lengths[2], lengths[3]) = (usize::MAX, usize::MAX),
+                4 => lengths[0] = self.n - 1,
+                5 => lengths[1] = self.n * (self.n + 1) - 1,
                 _ => {
-                    let (call, k) = (rng.from(1, 6), station(rng, self.n));
-                    self.call(rng, call, k);
+                    let (kind, k) = (rng.from(1, 7) as u8, station(rng, self.n));
+                    self.call(rng, kind, k);
+                    continue;
                 }
             }
+            self.lent(lengths, OPEN, count, 0);
             if self.bench.shed.n != 0 {
                 return;
             }
@@ -388,7 +287,7 @@ impl<R: Cells> Player<R> {
     }
 
     /// Any call by its weight.
-    fn weighted(&mut self, rng: &mut Rng, weights: &[usize; 9]) {
+    fn weighted(&mut self, rng: &mut Rng, weights: &[usize; 10]) {
         let total: usize = weights.iter().sum();
         let mut draw = rng.below(total);
         let mut action = 0;
@@ -400,35 +299,19 @@ impl<R: Cells> Player<R> {
         let place = if rng.percent(95) { rng.below(c) } else { *rng.pick(&[c, c + 1, usize::MAX]) };
         let fresh = self.stands(Stand::Fresh);
         let listening = self.stands(Stand::Listening);
-        match action {
-            0 if !fresh.is_empty() => {
-                let p = *rng.pick(&fresh);
-                self.call(rng, 1, p)
-            }
-            1 | 2 => self.call(rng, 2, place),
-            3 => self.call(rng, 3, place),
-            4 => self.call(rng, 4, place),
-            5 if !listening.is_empty() => {
-                let p = *rng.pick(&listening);
-                self.call(rng, 5, p)
-            }
-            6 => {
-                let p = rng.below(n);
-                self.call(rng, 6, p)
-            }
-            7 => {
-                self.write(rng);
-                return;
-            }
-            8 if rng.percent(10) => {
-                self.open(rng, self.lengths, n);
-                return;
-            }
-            _ => {
-                let (call, k) = (rng.from(1, 6), station(rng, n));
-                self.call(rng, call, k)
-            }
+        let (kind, k) = match action {
+            0 if !fresh.is_empty() => (SEND, *rng.pick(&fresh)),
+            1 | 2 => (DELIVER, place),
+            3 => (DROP, place),
+            4 => (REPEAT, place),
+            5 if !listening.is_empty() => (TURN, *rng.pick(&listening)),
+            6 => (CRASH, rng.below(n)),
+            7 => return self.write(rng),
+            8 if rng.percent(10) => (OPEN, n),
+            9 => return self.forge(rng),
+            _ => (rng.from(1, 7) as u8, station(rng, n)),
         };
+        self.call(rng, kind, k);
     }
 
     /// Rounds in which most frames arrive.
@@ -437,33 +320,33 @@ impl<R: Cells> Player<R> {
         let lag = *rng.pick(&[0, 10, 40]);
         let copies = *rng.pick(&[0, 5, 20]);
         let meddling = *rng.pick(&[0, 0, 20, 60]);
-        while self.numbers.len() < limit && self.bench.shed.e < self.bench.shed.book_length {
+        while self.requests.len() < limit && self.bench.shed.e < self.bench.shed.book_length {
             for p in self.stands(Stand::Fresh) {
                 if !rng.percent(lag) {
-                    self.call(rng, 1, p);
+                    self.call(rng, SEND, p);
                 }
             }
             let mut tries = 2 * self.bench.shed.c + 2;
             while tries > 0 && self.bench.shed.c > 0 {
                 tries -= 1;
-                let call = match rng.below(100) {
-                    draw if draw < loss => 3,
-                    draw if draw < loss + copies => 4,
-                    _ => 2,
+                let kind = match rng.below(100) {
+                    draw if draw < loss => DROP,
+                    draw if draw < loss + copies => REPEAT,
+                    _ => DELIVER,
                 };
                 let place = rng.below(self.bench.shed.c);
-                if matches!(self.call(rng, call, place), Outcome::Refused(_)) && rng.percent(30) {
-                    self.call(rng, 3, 0);
+                if self.call(rng, kind, place).refusal != 0 && rng.percent(30) {
+                    self.call(rng, DROP, 0);
                 }
             }
             for p in self.stands(Stand::Listening) {
                 if !rng.percent(lag) {
-                    self.call(rng, 5, p);
+                    self.call(rng, TURN, p);
                 }
             }
             if rng.percent(2) {
                 let p = rng.below(self.n);
-                self.call(rng, 6, p);
+                self.call(rng, CRASH, p);
             }
             if rng.percent(meddling) {
                 self.write(rng);
@@ -478,32 +361,31 @@ impl<R: Cells> Player<R> {
     fn to_the_last_round(&mut self, rng: &mut Rng) {
         let p = rng.below(self.n);
         for _ in 0..4100 {
-            self.call(rng, 1, p);
+            self.call(rng, SEND, p);
             while self.bench.shed.c > 0 {
-                let call = if rng.percent(40) { 2 } else { 3 };
-                if matches!(self.call(rng, call, 0), Outcome::Refused(_)) {
-                    self.call(rng, 3, 0);
+                let kind = if rng.percent(40) { DELIVER } else { DROP };
+                if self.call(rng, kind, 0).refusal != 0 {
+                    self.call(rng, DROP, 0);
                 }
             }
-            if self.call(rng, 5, p) == Outcome::Refused(Refusal::LastRound) {
+            if self.call(rng, TURN, p).refusal == Refusal::LastRound.number() {
                 break;
             }
         }
     }
 
-    /// What shows the heard sets, the holds and the counts: all send and turn, a frame is copied, and all is told.
+    /// What shows the heard sets, the holds and the counts: all send and turn, and a frame is copied.
     fn show(&mut self, rng: &mut Rng) {
         for p in 0..self.bench.shed.n {
-            self.call(rng, 5, p);
-            self.call(rng, 1, p);
-            self.call(rng, 5, p);
+            self.call(rng, TURN, p);
+            self.call(rng, SEND, p);
+            self.call(rng, TURN, p);
         }
-        self.whole = 100;
-        self.call(rng, 4, 0);
+        self.call(rng, REPEAT, 0);
     }
 }
 
-fn play<R: Cells>(rng: &mut Rng, number: u8, by: R) -> Input {
+fn play<R: Rule>(rng: &mut Rng, number: u8, by: R) -> Input {
     let n = if rng.percent(70) { rng.from(1, 4) } else { rng.from(1, 16) };
     let kind = rng.below(1000);
     // Three in a hundred have a buffer that is as long as may be or longer, and one in a hundred goes to the last round.
@@ -533,10 +415,11 @@ fn play<R: Cells>(rng: &mut Rng, number: u8, by: R) -> Input {
     let mut player = Player {
         bench: Bench::new(by, &pool, &book),
         rule: number,
+        values: values(rng, VALUES),
         n,
         lengths,
-        numbers: Vec::new(),
-        whole: if long || last { 0 } else { *rng.pick(&[5, 30, 100]) },
+        requests: Vec::new(),
+        whole: if long || last { 0 } else { *rng.pick(&[0, 3, 10, 30]) },
         damage: if last { 0 } else { *rng.pick(&[0, 2, 10]) },
     };
     if long || (!last && rng.percent(15)) {
@@ -547,15 +430,15 @@ fn play<R: Cells>(rng: &mut Rng, number: u8, by: R) -> Input {
         player.lengths[3] = book.len();
     }
     if player.bench.shed.n == 0 {
-        player.open(rng, player.lengths, n);
+        player.lent(player.lengths, OPEN, n, 0);
     }
     if last {
         player.to_the_last_round(rng);
     } else {
-        let weights = std::array::from_fn(|i| [6, 10, 10, 2, 2, 6, 0, 1, 1][i] * *rng.pick(&[1, 1, 1, 2, 4, 0]) + [2, 4, 0, 0, 0, 2, 0, 1, 1][i]);
+        let weights = std::array::from_fn(|i| [6, 10, 10, 2, 2, 6, 0, 1, 1, 2][i] * *rng.pick(&[1, 1, 1, 2, 4, 0]) + [2, 4, 0, 0, 0, 2, 0, 1, 1, 0][i]);
         let turns = *rng.pick(&[5, 20, 60, 120]);
         let style = rng.below(3);
-        let limit = turns * 7 * if n > 4 { 6 } else { 2 };
+        let limit = turns * if n > 4 { 6 } else { 2 } * (1 + player.whole);
         if style != 0 {
             player.lively(rng, limit);
         }
@@ -566,85 +449,51 @@ fn play<R: Cells>(rng: &mut Rng, number: u8, by: R) -> Input {
         }
         if rng.percent(10) {
             let p = rng.below(n);
-            player.call(rng, 6, p);
+            player.call(rng, CRASH, p);
             for _ in 0..10 {
                 player.weighted(rng, &weights);
             }
         }
     }
-    if !long {
+    if !long && rng.percent(70) {
         player.show(rng);
     }
-    Input::Calls { rule: number, calls: player.numbers, pool, book }
+    player.look_around(rng);
+    Input { rule: number, values: player.values, requests: player.requests, pool, book }
 }
 
-fn several(rng: &mut Rng, make: fn(&mut Rng) -> Input) -> Input {
-    Input::Several((0..12).map(|_| make(rng)).collect())
-}
-
-/// The input of a seed and an index.
+/// The input of a seed and an index: two of three of a shed's calls, and the third of recount.
 pub fn ask(seed: u64, index: u64) -> Input {
     let rng = &mut Rng::of(seed ^ 0x5EED, index);
-    match rng.below(100) {
-        0..=54 => match rule(rng) {
+    if rng.percent(67) {
+        match rule(rng) {
             0 => play(rng, 0, Third),
             number => play(rng, number, Last),
-        },
-        55..=66 => recount_input(rng),
-        67..=74 => round_input(rng),
-        75..=84 => several(rng, next_input),
-        85..=90 => several(rng, letter_input),
-        91..=96 => several(rng, frame_input),
-        _ => several(rng, entry_input),
+        }
+    } else {
+        recounts(rng)
     }
 }
 
 #[cfg(test)]
 mod tests {
     use super::*;
-    use crate::calls::{make_all, Peer};
     use std::collections::BTreeSet;
 
     #[test]
-    fn made_lists_reach_every_refusal_and_call() {
+    fn made_lists_reach_every_refusal_and_every_kind() {
         let mut refused = BTreeSet::new();
         let mut accepted = BTreeSet::new();
         for index in 0..800 {
-            let Input::Calls { rule, calls, pool, book } = ask(3, index) else { continue };
-            let each = |call, outcome| match outcome {
-                Outcome::Refused(refusal) => {
-                    refused.insert(refusal.number());
-                }
-                _ => {
-                    accepted.insert(call);
-                }
-            };
-            match rule {
-                0 => drop(make_all(Third, &calls, &pool, &book, each)),
-                _ => drop(make_all(Last, &calls, &pool, &book, each)),
+            let input = ask(3, index);
+            let told = answer(run, &input);
+            for (i, request) in input.requests.iter().enumerate() {
+                match told[2 * i] {
+                    0 => accepted.insert(request.kind as u64),
+                    number => refused.insert(number),
+                };
             }
         }
-        assert_eq!((refused.len(), accepted.len()), (15, 8));
-    }
-
-    #[test]
-    fn the_peer_keeps_what_is_refused() {
-        for index in 0..800 {
-            match ask(4, index) {
-                Input::Recount { rule, values, book, round, cells, scratch, row } => {
-                    let mut after = cells.clone();
-                    if Peer.recount(rule, &values, &book, round, &mut after, scratch, row) != 0 && rule != 0 {
-                        assert_eq!(after, cells);
-                    }
-                }
-                Input::Round { rule, n, round, heard, before, after } => {
-                    let mut new = after.clone();
-                    if Peer.round(rule, n, round, &heard, &before, &mut new) != 0 && rule != 0 {
-                        assert_eq!(new, after);
-                    }
-                }
-                _ => {}
-            }
-        }
+        assert_eq!((refused.len(), accepted.len()), (15, KINDS.len()));
     }
 }

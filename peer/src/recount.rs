@@ -65,28 +65,6 @@ fn one_round<R: Rule>(rule: &R, n: usize, k: u16, heard: &[Heard; 16], before: &
     }
 }
 
-/// A single round, from heard sets that the caller names; answers the round after it.
-pub fn lockstep_round<R: Rule>(
-    rule: &R,
-    n: usize,
-    round: u16,
-    heard: &[Heard; 16],
-    before: &[R::State],
-    after: &mut [R::State],
-) -> Result<u16, RecountRefusal> {
-    if n == 0 || n > rule.most() {
-        return Err(RecountRefusal::ValueCount);
-    }
-    if before.len() < n || after.len() < n {
-        return Err(RecountRefusal::BufferTooShort);
-    }
-    if round >= LAST_ROUND {
-        return Err(RecountRefusal::RoundTooHigh);
-    }
-    one_round(rule, n, round, heard, before, after);
-    Ok(round + 1)
-}
-
 #[cfg(test)]
 mod tests {
     use super::*;

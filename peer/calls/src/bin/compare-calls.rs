@@ -1,16 +1,17 @@
-//! compare-calls [COUNT] [SEED]: asks the product and the peer COUNT made inputs, compares every number that they answer and
+//! compare-calls [COUNT] [SEED]: asks the product and the peer COUNT made inputs, compares every number that they reply and
 //! leave, and prints what was reached. Ends with status 1 where any differs.
 
 use peer::asking::{answer, ask, Input};
-use peer::calls::{make_all, Outcome, Peer, CALLS};
-use peer::rules::{Last, Third};
-use peer_calls::Product;
+use peer::calls::{run, DELIVER, KINDS, LOOK, RECOUNT};
+use peer_calls::product;
 use std::collections::{BTreeMap, BTreeSet};
 
 const REFUSALS: [&str; 16] = [
     "none", "Shut", "AlreadyOpen", "ValueCount", "BufferSize", "BufferMismatch", "NoSuchStation", "NoSuchPlace", "Unreadable",
     "StationDown", "AlreadySent", "NotListening", "HoldsLetter", "PoolFull", "BookFull", "LastRound",
 ];
+
+const FATES: [&str; 4] = ["Late", "Again", "Taken", "Early"];
 
 /// How many inputs reached something, and how often it was reached.
 #[derive(Default)]
@@ -28,61 +29,26 @@ impl Reached {
     }
 }
 
-fn rule_name(rule: u8) -> &'static str {
-    if rule == 0 {
-        "third"
-    } else {
-        "last"
-    }
-}
-
-fn outcome_name(call: usize, outcome: Outcome) -> Vec<String> {
-    let name = CALLS[call];
-    match outcome {
-        Outcome::Refused(refusal) => {
-            let number = refusal.number();
-            vec![format!("refusal {number:2} {}", REFUSALS[number as usize]), format!("call {name}, refused {number:2}")]
-        }
-        Outcome::Fate(fate) => vec![format!("call {name}, {fate:?}")],
-        Outcome::Done(_) | Outcome::Written => vec![format!("call {name}, done")],
-    }
-}
-
 /// What an input reaches, by the peer.
 fn reached(input: &Input, told: &[u64]) -> Vec<String> {
-    if let Input::Several(inputs) = input {
-        return inputs.iter().flat_map(|input| reached(input, &answer(&Peer, input, 0))).collect();
-    }
-    let mut names = vec![format!("input {}", input.kind())];
-    if let Some(rule) = input.rule() {
-        names.push(format!("rule {}", rule_name(rule)));
-        names.push(format!("input {}, {}", input.kind(), rule_name(rule)));
-    }
-    match input {
-        Input::Calls { rule, calls, pool, book } => {
-            let mut each = |call, outcome| names.extend(outcome_name(call, outcome));
-            let hulls = match rule {
-                0 => make_all(Third, calls, pool, book, &mut each).1.hulls(),
-                _ => make_all(Last, calls, pool, book, &mut each).1.hulls(),
-            };
-            if hulls > 0 {
-                names.push(format!("input calls, {}, a hull is shown", rule_name(*rule)));
+    let rule = if input.rule == 0 { "third" } else { "last" };
+    let what = if input.requests.iter().any(|request| request.kind == RECOUNT) { "recounts" } else { "calls" };
+    let mut names = vec![format!("input of {what}, {rule}")];
+    for (request, reply) in input.requests.iter().zip(told.chunks(2)) {
+        let kind = KINDS[request.kind as usize];
+        match (reply[0] as usize, reply[1]) {
+            (0, fate) if request.kind == DELIVER => names.push(format!("{kind}, {}", FATES[fate as usize])),
+            (0, _) => names.push(format!("{kind}, done")),
+            (number, _) => {
+                names.push(format!("{kind}, refused {number:2}"));
+                if request.kind != RECOUNT {
+                    names.push(format!("refusal {number:2} {}", REFUSALS[number]));
+                }
             }
         }
-        Input::Recount { .. } | Input::Round { .. } if told[0] == 0 => names.push(format!("{} accepted", input.kind())),
-        Input::Recount { .. } | Input::Round { .. } => names.push(format!("{} refused {:2}", input.kind(), told[0])),
-        Input::Next { state, .. } => {
-            let mut same = Vec::new();
-            peer::calls::tell_state(state, &mut same);
-            names.push(format!("next {}", if *told == same { "keeps the state" } else { "changes the state" }));
+        if request.kind == LOOK && reply[1] >= 3 * 65536 {
+            names.push(format!("look, {rule}, a hull"));
         }
-        Input::Letter { .. } => names.push(format!("letter {}", if told[2] == 1 { "there" } else { "none" })),
-        Input::Frame { .. } => {
-            names.push(format!("frame {}", if told[1] == 1 { "packed" } else { "too large" }));
-            names.push(format!("frame {}", if told[8] == 1 { "read" } else { "unreadable" }));
-        }
-        Input::Several(_) => {}
-        Input::Entry { .. } => names.push(format!("entry {}", if told[1] == 1 { "packed" } else { "too large" })),
     }
     names
 }
@@ -91,26 +57,25 @@ fn main() {
     let mut args = std::env::args().skip(1).map(|arg| arg.parse::<u64>().expect("COUNT and SEED are numbers"));
     let count = args.next().unwrap_or(25000);
     let seed = args.next().unwrap_or(1);
-    let (mut differ, mut numbers, mut calls, mut first) = (0, 0, 0, None);
+    let (mut differ, mut numbers, mut requests, mut first) = (0, 0, 0, None);
     let mut all = Reached::default();
     for index in 0..count {
         let input = ask(seed, index);
-        let peer = answer(&Peer, &input, 0);
-        let product = answer(&Product, &input, peer.len() + 64);
+        let (peer, product) = (answer(run, &input), answer(product, &input));
         numbers += peer.len();
-        let names = reached(&input, &peer);
-        calls += names.iter().filter(|name| name.starts_with("call ")).count();
-        all.note(names);
+        requests += input.requests.len();
+        all.note(reached(&input, &peer));
         if peer != product {
             differ += 1;
             let place = peer.iter().zip(&product).take_while(|(a, b)| a == b).count();
-            first.get_or_insert(format!("{index} ({}), at number {place} of {} and {}", input.kind(), peer.len(), product.len()));
+            let at = input.requests.get(place / 2).map_or("words".to_string(), |request| format!("{request:?}"));
+            first.get_or_insert(format!("{index}, at number {place}: {at}"));
         }
     }
     for (name, (inputs, times)) in &all.0 {
         println!("{name:34} in {inputs:6} inputs, {times:8} times");
     }
-    println!("{calls} calls, {numbers} numbers compared");
+    println!("{requests} requests, {numbers} numbers compared");
     if let Some(first) = &first {
         println!("first that differs: seed {seed}, input {first}");
     }
