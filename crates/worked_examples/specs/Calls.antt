@@ -4,8 +4,8 @@ use Rattle.third.specs.declared.State.{State}
 use Rattle.third.specs.declared.Letter.{Letter}
 use Rattle.third.specs.Third.{third}
 use Rattle.protocol.specs.declared.refusal.Refusal.{Refusal}
-use Rattle.protocol.specs.declared.refusal.Refusal.TheVariants.{Shut, AlreadyOpen, ValueCount, BufferSize, BufferMismatch, NoSuchStation, NoSuchPlace, Unreadable}
-use Rattle.protocol.specs.declared.refusal.Refusal.TheVariants.{StationDown, AlreadySent, NotListening, HoldsLetter, PoolFull, BookFull, LastRound}
+use Rattle.protocol.specs.declared.refusal.Refusal.TheVariants.{Shut, AlreadyOpen, ValueCount, BufferSize, BufferMismatch, NoSuchStation, NoSuchPlace}
+use Rattle.protocol.specs.declared.refusal.Refusal.TheVariants.{Unreadable, StationDown, AlreadySent, NotListening, HoldsLetter, PoolFull, BookFull, LastRound}
 use Rattle.protocol.specs.declared.types.Fate.{Fate}
 use Rattle.protocol.specs.declared.types.Fate.TheVariants.{Late, Again, Taken, Early}
 use Rattle.protocol.specs.declared.types.StationRecord.{StationRecord}
