@@ -1,12 +1,12 @@
 -- What each name stands for.
 use Rattle.std.specs.Prelude.{◌≡◌, ◌+◌, ◌*◌, List, length, replicate}
 use Rattle.rules.specs.Rule.{Behaviour}
-use Rattle.third.specs.declared.State.{State as ThirdState}
-use Rattle.third.specs.declared.Letter.{Letter as ThirdLetter}
-use Rattle.third.specs.Third.{third}
-use Rattle.last.specs.declared.State.{State as LastState}
-use Rattle.last.specs.declared.Letter.{Letter as LastLetter}
-use Rattle.last.specs.Last.{last}
+use Rattle.third_rule.specs.declared.State.{State as ThirdState}
+use Rattle.third_rule.specs.declared.Letter.{Letter as ThirdLetter}
+use Rattle.third_rule.specs.Third.{third}
+use Rattle.last_rule.specs.declared.State.{State as LastState}
+use Rattle.last_rule.specs.declared.Letter.{Letter as LastLetter}
+use Rattle.last_rule.specs.Last.{last}
 use Rattle.catalogue.specs.declared.RuleName.{RuleName}
 use Rattle.catalogue.specs.declared.RuleName.TheVariants.{Third, Last}
 

@@ -4,41 +4,22 @@
 
 ghost use Rattle.std.specs.Prelude.{◌≡◌, ◌*◌, ◌^◌, ◌<◌, ◌≤◌, Some, nat_lt, refl};
 ghost use Rattle.rules.specs.declared.TheConstants.{LAST_ROUND};
-ghost use Rattle.last.specs.Last.{last, letter_fits, stamped, counted, phase, coordinator, heard, later, latest, VotesForLatest, collect, adopt, acknowledge, decide};
-ghost use Rattle.last.specs.Laws.{last_interface, last_laws, last_ranges};
+ghost use Rattle.last_rule.specs.Last.{last, letter_fits, stamped, counted, phase, coordinator, heard, later, latest, collect, adopt, acknowledge, decide};
+ghost use Rattle.last_rule.specs.Moves.{VotesForLatest};
+ghost use Rattle.last_rule.proofs.Laws.{last_interface, last_laws, last_ranges};
 ghost use Rattle.std.proofs.Common.{rules};
 
+use last_rule::LAST_STAMP;
+pub use last_rule::{Letter, State};
 use rules::{Rule, count_letters, is_outside};
 
 // The rounds of a phase. Its steps go by their numbers, 0 to 3, as in the rule's table.
 const STEPS: u16 = 4;
 
-// The largest stamp.
-const LAST_STAMP: u16 = 1024;
-
 // Where a packed letter's value and stamp begin; the bits below the stamp are 0.
 const VALUE_AT: u32 = 28;
 
 const STAMP_AT: u32 = 17;
-
-// A station's state. A stamp above 1,024 counts as 1,024. The vote stands beside its marks, and in no
-// `Option` with them, since it stays when they are cleared.
-#[derive(Clone, Copy, Debug, PartialEq, Eq)]
-pub struct State {
-    pub value: u16,
-    pub stamp: u16,
-    pub vote: u16,
-    pub committed: bool,
-    pub ready: bool,
-    pub hull: Option<u16>,
-}
-
-// A letter: a value and its stamp, which counts as 1,024 if it is larger.
-#[derive(Clone, Copy, Debug, PartialEq, Eq)]
-pub struct Letter {
-    pub value: u16,
-    pub stamp: u16,
-}
 
 // The rule.
 #[derive(Clone, Copy)]

@@ -3,8 +3,8 @@ use Rattle.std.specs.Prelude.{ℕ, ◌+◌, ◌*◌, cond, List, [], ◌∷◌, 
 use Rattle.std.specs.List.{slice_get}
 use Rattle.lists.specs.Lists.{put}
 use Rattle.rules.specs.Rule.{Behaviour}
-use Rattle.third.specs.Third.{third}
-use Rattle.last.specs.Last.{last}
+use Rattle.third_rule.specs.Third.{third}
+use Rattle.last_rule.specs.Last.{last}
 use Rattle.protocol.specs.declared.types.Fate.{Fate}
 use Rattle.protocol.specs.declared.types.Fate.TheVariants.{Late, Again, Taken, Early}
 use Rattle.protocol.specs.declared.types.Stand.{Stand}

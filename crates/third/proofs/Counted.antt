@@ -6,9 +6,9 @@ use Rattle.std.proofs.lemmas.List.{take_all, length-drop}
 use Rattle.std.proofs.lemmas.Bool.{cases_eq, cases_Bool, ltb-true, ltb-false}
 use Rattle.std.proofs.lemmas.Bool.Decides.{nat_tests}
 use Rattle.lists.proofs.Counting.{found_by}
-use Rattle.third.specs.declared.Letter.{Letter}
-use Rattle.third.specs.Third.{Mailbox, says, occurs, before, better, most_frequent, quorum_value}
-use Rattle.third.specs.Mailbox.{AsGood, folded_good, winner_most, quorum_is, quorum_occurs}
+use Rattle.third_rule.specs.declared.Letter.{Letter}
+use Rattle.third_rule.specs.Third.{Mailbox, says, occurs, before, better, most_frequent, quorum_value}
+use Rattle.third_rule.proofs.Mailbox.{AsGood, folded_good, winner_most, quorum_is, quorum_occurs}
 
 -- at sender i, whose letter has another value than the best so far: the count is of the senders from i on
 module _ (m : Mailbox) (own i : ℕ) (l : Letter) (best most count : ℕ)

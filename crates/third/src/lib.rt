@@ -3,24 +3,13 @@
 
 ghost use Rattle.std.specs.Prelude.{◌≡◌, ◌*◌, ◌≤◌, false, length, nat_lt, refl};
 ghost use Rattle.rules.specs.Rule.{outside};
-ghost use Rattle.third.specs.Third.{third, letter_fits, occurs, before, most_frequent, Moves};
-ghost use Rattle.third.specs.Laws.{third_interface, third_laws, third_ranges};
+ghost use Rattle.third_rule.specs.Third.{third, letter_fits, occurs, before, most_frequent};
+ghost use Rattle.third_rule.specs.Moves.{Moves};
+ghost use Rattle.third_rule.proofs.Laws.{third_interface, third_laws, third_ranges};
 ghost use Rattle.std.proofs.Common.{rules};
 
 use rules::{Rule, count_letters, is_outside};
-
-// A station's state: the value that it votes for, and the hull that it shows.
-#[derive(Clone, Copy, Debug, PartialEq, Eq)]
-pub struct State {
-    pub value: u16,
-    pub hull: Option<u16>,
-}
-
-// A letter: its sender's value.
-#[derive(Clone, Copy, Debug, PartialEq, Eq)]
-pub struct Letter {
-    pub value: u16,
-}
+pub use third_rule::{Letter, State};
 
 // How many letters have the value.
 fn count_of(value: u16, mailbox: &[Option<Letter>]) -> usize
@@ -132,7 +121,7 @@ impl Rule for Third {
         mailbox: &[Option<Letter>],
     ) -> State
         ensures value { result ≡ third.next n station round state.now mailbox.now }
-        ensures moves { outside 16 n station round ≡ false → length mailbox.now ≡ n → Moves n state.now mailbox.now result }
+        ensures moves { outside third.most n station round ≡ false → length mailbox.now ≡ n → Moves n state.now mailbox.now result }
     {
         if is_outside(Self::MAX_STATIONS, n, station, round) || mailbox.len() != n {
             return *state;

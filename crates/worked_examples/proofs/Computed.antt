@@ -1,6 +1,6 @@
 -- Every worked example is computed, or follows from how many letters are heard.
 use Rattle.std.proofs.Common.{◌≡◌, [], ◌∷◌, Some, refl}
-use Rattle.third.specs.Third.{third}
+use Rattle.third_rule.specs.Third.{third}
 use Rattle.rules.specs.Rule.{lockstep}
 use Rattle.frames.specs.Frame.{pack_frame, read_frame}
 use Rattle.frames.specs.Book.{pack_entry}

@@ -3,15 +3,15 @@ use Rattle.std.specs.Prelude.{◌≡◌, ℕ, ◌≤◌, true, List, length, get
 use Rattle.std.proofs.Common.{arith}
 use Rattle.std.proofs.lemmas.Bool.{false≢true}
 use Rattle.lists.proofs.Counting.{count_by_count, no_fewer}
-use Rattle.third.specs.declared.State.{State as ThirdState}
-use Rattle.third.specs.declared.Letter.{Letter as ThirdLetter}
-use Rattle.third.specs.Third.{third, says, occurs, quorum_value, heard as third_heard}
-use Rattle.third.specs.Mailbox.{quorum_occurs}
-use Rattle.last.specs.declared.State.{State as LastState}
-use Rattle.last.specs.declared.Letter.{Letter as LastLetter}
-use Rattle.last.specs.Last.{last, heard as last_heard}
+use Rattle.third_rule.specs.declared.State.{State as ThirdState}
+use Rattle.third_rule.specs.declared.Letter.{Letter as ThirdLetter}
+use Rattle.third_rule.specs.Third.{third, says, occurs, quorum_value, heard as third_heard}
+use Rattle.third_rule.proofs.Mailbox.{quorum_occurs}
+use Rattle.last_rule.specs.declared.State.{State as LastState}
+use Rattle.last_rule.specs.declared.Letter.{Letter as LastLetter}
+use Rattle.last_rule.specs.Last.{last, heard as last_heard}
 use Rattle.std.specs.Option.{option_or}
-use Rattle.last.specs.Mailboxes.{has_latest}
+use Rattle.last_rule.proofs.Mailboxes.{has_latest}
 
 -- ---- OneThirdRule
 letter_said : (v : ℕ) (o : Option ThirdLetter) → says v o ≡ true → is_some o ≡ true

@@ -1,9 +1,9 @@
 -- What is told, and what lies in the buffers, after the example's steps are conducted.
 use Rattle.std.specs.Prelude.{◌≡◌, List, [], ◌∷◌, replicate, Some, None, Ok, Err, Option, Result, refl}
 use Rattle.std.proofs.Common.{arith, ap, ◌∙◌}
-use Rattle.third.specs.declared.State.{State}
-use Rattle.third.specs.declared.Letter.{Letter}
-use Rattle.third.specs.Third.{third}
+use Rattle.third_rule.specs.declared.State.{State}
+use Rattle.third_rule.specs.declared.Letter.{Letter}
+use Rattle.third_rule.specs.Third.{third}
 use Rattle.protocol.specs.declared.refusal.Refusal.{Refusal}
 use Rattle.protocol.specs.Calls.{open_refusal}
 use Rattle.shed_core.specs.declared.shed.Shed.{Shed}

@@ -1,8 +1,8 @@
 -- Worked examples of the calls: two stations that open with 9 and 7 under OneThirdRule.
 use Rattle.std.specs.Prelude.{◌≡◌, ℕ, true, false, List, [], ◌∷◌, ◌++◌, map, take, replicate, Some, None, Ok, Option, Result}
-use Rattle.third.specs.declared.State.{State}
-use Rattle.third.specs.declared.Letter.{Letter}
-use Rattle.third.specs.Third.{third}
+use Rattle.third_rule.specs.declared.State.{State}
+use Rattle.third_rule.specs.declared.Letter.{Letter}
+use Rattle.third_rule.specs.Third.{third}
 use Rattle.protocol.specs.declared.refusal.Refusal.{Refusal}
 use Rattle.protocol.specs.declared.refusal.Refusal.TheVariants.{Shut, AlreadyOpen, ValueCount, BufferSize, BufferMismatch, NoSuchStation, NoSuchPlace}
 use Rattle.protocol.specs.declared.refusal.Refusal.TheVariants.{Unreadable, StationDown, AlreadySent, NotListening, HoldsLetter, PoolFull, BookFull, LastRound}

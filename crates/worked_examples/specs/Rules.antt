@@ -1,11 +1,11 @@
 -- Worked examples of the two rules.
 use Rattle.std.specs.Prelude.{◌≡◌, ℕ, ◌+◌, ◌*◌, ◌^◌, true, false, List, [], ◌∷◌, length, Some, None, Option}
-use Rattle.third.specs.declared.State.{State as ThirdState}
-use Rattle.third.specs.declared.Letter.{Letter as ThirdLetter}
-use Rattle.third.specs.Third.{third, heard as third_heard}
-use Rattle.last.specs.declared.State.{State as LastState}
-use Rattle.last.specs.declared.Letter.{Letter as LastLetter}
-use Rattle.last.specs.Last.{last, heard as last_heard}
+use Rattle.third_rule.specs.declared.State.{State as ThirdState}
+use Rattle.third_rule.specs.declared.Letter.{Letter as ThirdLetter}
+use Rattle.third_rule.specs.Third.{third, heard as third_heard}
+use Rattle.last_rule.specs.declared.State.{State as LastState}
+use Rattle.last_rule.specs.declared.Letter.{Letter as LastLetter}
+use Rattle.last_rule.specs.Last.{last, heard as last_heard}
 
 -- ---- OneThirdRule: station 0 in round 0, with value 9 and no hull
 abbrev pub voting : ℕ → Option ℕ → ThirdState

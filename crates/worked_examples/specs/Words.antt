@@ -1,7 +1,7 @@
 -- Worked examples of frames and book entries.
 use Rattle.std.specs.Prelude.{◌≡◌, ℕ, true, false, List, [], ◌∷◌, replicate, Some, None}
-use Rattle.third.specs.Third.{third}
-use Rattle.last.specs.Last.{last}
+use Rattle.third_rule.specs.Third.{third}
+use Rattle.last_rule.specs.Last.{last}
 use Rattle.frames.specs.Frame.{pack_frame, read_frame}
 use Rattle.frames.specs.Book.{pack_entry}
 

@@ -1,6 +1,6 @@
 use Rattle.std.proofs.Common.{None, arith, rules}
 use Rattle.std.proofs.lemmas.List.Sums.{fold_more}
-use Rattle.third.specs.Third.{better}
+use Rattle.third_rule.specs.Third.{better}
 use Rattle.third.proofs.Counted.{goes, stays}
 use Rattle.third.proofs.commonest.Goals as goal
 use Rattle.third.proofs.commonest.Goals.{in-Some+then-l-best+then-goes_before, in-Some+then-l-best+else-goes_before, in-Some+else-l-best, in_default}

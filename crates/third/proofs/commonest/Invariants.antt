@@ -1,5 +1,5 @@
 use Rattle.std.proofs.Common.{◌≡◌, ◌≤◌, length, take, fold}
-use Rattle.third.specs.Third.{occurs, better}
+use Rattle.third_rule.specs.Third.{occurs, better}
 use Rattle.third.proofs.commonest.Given as goal
 
 -- the best so far is what the senders so far make of the own value, with its whole count

@@ -1,5 +1,5 @@
 use Rattle.std.proofs.Common.{◌≡◌, ◌≤◌, take}
-use Rattle.third.specs.Third.{occurs}
+use Rattle.third_rule.specs.Third.{occurs}
 use Rattle.third.proofs.count_of.Given as goal
 
 abbrev pub invariant-loop-place : goal.invariant-loop-place

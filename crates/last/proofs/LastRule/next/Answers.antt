@@ -1,5 +1,5 @@
 use Rattle.std.proofs.Common.{sym, ◌∙◌, arith}
-use Rattle.last.specs.Calls.{collecting}
+use Rattle.last_rule.proofs.Calls.{collecting}
 use Rattle.last.proofs.LastRule.next.Goals as goal
 
 -- a coordinator that collects

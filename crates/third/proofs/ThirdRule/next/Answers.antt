@@ -2,7 +2,7 @@ use Rattle.std.proofs.Common.{rules, sym, ap, ◌∙◌}
 use Rattle.std.specs.Bool.{then_some}
 use Rattle.std.specs.Option.{option_or}
 use Rattle.third.proofs.Counted.{winner_quorum}
-use Rattle.third.proofs.Moves.{moves}
+use Rattle.third_rule.proofs.Moves.{moves}
 use Rattle.third.proofs.ThirdRule.next.Goals as goal
 
 pub returns-clause-value : goal.returns-clause-value

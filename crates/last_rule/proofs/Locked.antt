@@ -3,8 +3,8 @@ use Rattle.std.specs.Prelude.{◌≡◌, ℕ, ◌*◌, ◌<◌, ◌≤◌, ltb, 
 use Rattle.std.proofs.Common.{sym, ◌∙◌, inl, inr, arith}
 use Rattle.std.proofs.lemmas.Bool.{ltb-true, lt-ltb}
 use Rattle.lists.proofs.Counting.{count, no_fewer, witness, meet}
-use Rattle.last.specs.declared.State.{State}
-use Rattle.last.specs.Phase.{Vote}
+use Rattle.last_rule.specs.declared.State.{State}
+use Rattle.last_rule.proofs.Phase.{Vote}
 
 -- n stations
 module _ (n : ℕ) where

@@ -4,13 +4,13 @@ use Rattle.std.proofs.Common.{ap, subst, arith, ltb→lt, lt→ltb}
 use Rattle.std.proofs.lemmas.Bool.{false≢true, ltb-true, eqb-true, ne_eqb, cond_both, cond-true, or_left, or_right, not_from_false}
 use Rattle.std.proofs.lemmas.Bool.Decides.{nat_tests}
 use Rattle.rules.specs.Rule.{Interface, Laws, Codec, Ranges, Stable, outside}
-use Rattle.third.specs.declared.Letter.{Letter}
-use Rattle.third.specs.declared.State.{State}
-use Rattle.third.specs.Third.{third, letter_fits, says, heard, most_frequent}
+use Rattle.third_rule.specs.declared.Letter.{Letter}
+use Rattle.third_rule.specs.declared.State.{State}
+use Rattle.third_rule.specs.Third.{third, letter_fits, says, heard, most_frequent}
 use Rattle.lists.proofs.Counting.{found_by}
-use Rattle.third.specs.Mailbox.{winner_heard}
+use Rattle.third_rule.proofs.Mailbox.{winner_heard}
 use Rattle.lists.proofs.Options.{holds, unless, same_some}
-use Rattle.third.specs.Agreement.{by_next, third_agreement, third_validity}
+use Rattle.third_rule.proofs.Agreement.{by_next, third_agreement, third_validity}
 
 -- what a letter carries
 sent : (b : Bool) (x : ℕ) (l : Letter) → ◌≡◌ {A = Option Letter} (cond b None (Some (record { value = x }))) (Some l) → x ≡ l.value

@@ -3,9 +3,10 @@ use Rattle.std.proofs.Common.{◌≡◌, ℕ, ◌*◌, false, not, ◌||◌, eqb
 use Rattle.std.proofs.lemmas.Bool.{lt-ltb, le-ltb, eq-eqb, cond-true, cond-false, or_from, not_from_true}
 use Rattle.std.specs.Option.{option_or}
 use Rattle.rules.specs.Rule.{outside}
-use Rattle.third.specs.declared.State.{State}
-use Rattle.third.specs.Third.{Mailbox, heard, most_frequent, quorum_value, next_value, third, Moves}
-use Rattle.third.specs.Mailbox.{winner, quorum_is, quorum_occurs}
+use Rattle.third_rule.specs.declared.State.{State}
+use Rattle.third_rule.specs.Third.{Mailbox, heard, most_frequent, quorum_value, next_value, third}
+use Rattle.third_rule.specs.Moves.{Moves}
+use Rattle.third_rule.proofs.Mailbox.{winner, quorum_is, quorum_occurs}
 
 module _ (n : ℕ) (s : State) (m : Mailbox) (whole : length m ≡ n) where
   abbrev after : State

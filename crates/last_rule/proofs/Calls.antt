@@ -4,10 +4,11 @@ use Rattle.std.proofs.Common.{sym, ap, subst, ◌∙◌, arith}
 use Rattle.std.proofs.lemmas.Bool.{cond_both, cond-true, cond-false, ltb-true, eqb-true, and_parts, not_from_true, eq-eqb, lt-ltb, or_from}
 use Rattle.rules.specs.Rule.{outside, Stable}
 use Rattle.lists.proofs.Options.{none_some, only, unless}
-use Rattle.last.specs.declared.State.{State}
-use Rattle.last.specs.declared.Letter.{Letter}
-use Rattle.last.specs.Last.{last, phase, coordinator, by_step, stamped, Mailbox, At, heard, latest, committed_to, adopting, readied, commit, collect, adopt, acknowledge, hull_after, decide, writes, VotesForLatest}
-use Rattle.last.specs.Mailboxes.{has_latest}
+use Rattle.last_rule.specs.declared.State.{State}
+use Rattle.last_rule.specs.declared.Letter.{Letter}
+use Rattle.last_rule.specs.Last.{last, phase, coordinator, by_step, stamped, Mailbox, At, heard, latest, committed_to, adopting, readied, commit, collect, adopt, acknowledge, hull_after, decide, writes}
+use Rattle.last_rule.specs.Moves.{VotesForLatest}
+use Rattle.last_rule.proofs.Mailboxes.{has_latest}
 
 -- ---- the four steps of a round's number
 at_0 : {A : Type 0} (k : ℕ) (a b c d : A) → k % 4 ≡ 0 → by_step k a b c d ≡ a

@@ -4,10 +4,11 @@ use Rattle.std.proofs.Common.{sym, ap, ◌∙◌, inl, inr, arith}
 use Rattle.std.proofs.lemmas.List.Sums.{get_or-le-sum_by}
 use Rattle.std.proofs.lemmas.Bool.{false≢true, ltb-true, eqb-true, eq-eqb, cond_both, cond-true, lt-ltb, cases_eq, cases_Bool}
 use Rattle.std.proofs.lemmas.Bool.Decides.{nat_tests}
-use Rattle.third.specs.declared.Letter.{Letter}
+use Rattle.third_rule.specs.declared.Letter.{Letter}
 use Rattle.lists.proofs.Options.{none_some, same_some}
 use Rattle.lists.proofs.Counting.{meet, count_by_count, found_by}
-use Rattle.third.specs.Third.{Mailbox, MostFrequent, says, heard, occurs, better, most_frequent, quorum_from, quorum_value}
+use Rattle.third_rule.specs.Third.{Mailbox, says, heard, occurs, better, most_frequent, quorum_from, quorum_value}
+use Rattle.third_rule.specs.Moves.{MostFrequent}
 
 -- y occurs at least as often as x, and where as often is at most x
 pub record AsGood (m : Mailbox) (x y : ℕ) : Type 0 where

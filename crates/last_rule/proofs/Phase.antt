@@ -8,11 +8,11 @@ use Rattle.rules.specs.Rule.{Opening, Heard, lockstep, letter_heard, mailbox, ou
 use Rattle.lists.proofs.Options.{only}
 use Rattle.lists.proofs.Tables.{length_tabulate, get_or_tabulate, at_tabulate}
 use Rattle.lists.proofs.Counting.{count, no_fewer, count_by_tabulate}
-use Rattle.last.specs.declared.State.{State}
-use Rattle.last.specs.declared.Letter.{Letter}
-use Rattle.last.specs.Last.{last, phase, coordinator, stamped, Mailbox, At, heard, committed_to, adopting, readied, showing, unmarked, commit, latest, adopt, hull_after}
-use Rattle.last.specs.Mailboxes.{letter_there, has_latest}
-use Rattle.last.specs.Calls.{Sent, sent, next_0, next_1, next_2, next_3}
+use Rattle.last_rule.specs.declared.State.{State}
+use Rattle.last_rule.specs.declared.Letter.{Letter}
+use Rattle.last_rule.specs.Last.{last, phase, coordinator, stamped, Mailbox, At, heard, committed_to, adopting, readied, showing, unmarked, commit, latest, adopt, hull_after}
+use Rattle.last_rule.proofs.Mailboxes.{letter_there, has_latest}
+use Rattle.last_rule.proofs.Calls.{Sent, sent, next_0, next_1, next_2, next_3}
 
 -- a station is committed to v; it is ready to announce v
 abbrev pub Committed : State → (v : ℕ) → Type 0

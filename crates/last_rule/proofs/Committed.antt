@@ -4,10 +4,10 @@ use Rattle.std.proofs.Common.{sym, ap, subst, ◌∙◌, inl, inr, arith}
 use Rattle.std.proofs.lemmas.Bool.{eqb-true, eqb-false, lt-ltb, cases_Bool, cond_both, cond-true, cond-false, false≢true}
 use Rattle.lists.proofs.Options.{same_some}
 use Rattle.lists.proofs.Counting.{count, no_fewer}
-use Rattle.last.specs.declared.State.{State}
-use Rattle.last.specs.Last.{stamped}
-use Rattle.last.specs.Locked.{Locked, Keeps, locked_on, vote_locked}
-use Rattle.last.specs.Phase.{Committed, Ready, Vote, Collects, Adopts, Acknowledges, Decides}
+use Rattle.last_rule.specs.declared.State.{State}
+use Rattle.last_rule.specs.Last.{stamped}
+use Rattle.last_rule.proofs.Locked.{Locked, Keeps, locked_on, vote_locked}
+use Rattle.last_rule.proofs.Phase.{Committed, Ready, Vote, Collects, Adopts, Acknowledges, Decides}
 
 -- the states of n stations; `Ours v` says that v is an opening value
 module _ (n : ℕ) (Ours : ℕ → Type 0) where

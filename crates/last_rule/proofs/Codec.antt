@@ -2,8 +2,8 @@
 use Rattle.std.specs.Prelude.{◌≡◌, ℕ, ◌^◌, ◌<◌, ◌≤◌, Some}
 use Rattle.std.proofs.Common.{arith}
 use Rattle.std.proofs.lemmas.Bool.Decides.{nat_tests}
-use Rattle.last.specs.declared.Letter.{Letter}
-use Rattle.last.specs.Last.{last, counted}
+use Rattle.last_rule.specs.declared.Letter.{Letter}
+use Rattle.last_rule.specs.Last.{last, counted}
 
 pub reads_back : (l : Letter) → l.value < 2 ^ 16 → last.unpack (last.pack l) ≡ Some (counted l)
 reads_back l fits = grind (arith, nat_tests)

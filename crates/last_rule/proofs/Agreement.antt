@@ -6,12 +6,12 @@ use Rattle.rules.specs.declared.TheConstants.{LAST_ROUND}
 use Rattle.rules.specs.Rule.{Opening, Heard, lockstep, Agreement, Validity}
 use Rattle.lists.proofs.Options.{none_some}
 use Rattle.rules.proofs.Runs.{hull_stays}
-use Rattle.last.specs.declared.State.{State}
-use Rattle.last.specs.Last.{last, phase}
-use Rattle.last.specs.Calls.{stable}
-use Rattle.last.specs.Phase.{Collects, Adopts, Acknowledges, Decides, collects, adopts, acknowledges, decides, rests}
-use Rattle.last.specs.Locked.{Locked, locked_one, locked_held}
-use Rattle.last.specs.Committed.{Start, Collected, Adopted, Acknowledged, collect_step, adopt_step, acknowledge_step, decide_step}
+use Rattle.last_rule.specs.declared.State.{State}
+use Rattle.last_rule.specs.Last.{last, phase}
+use Rattle.last_rule.proofs.Calls.{stable}
+use Rattle.last_rule.proofs.Phase.{Collects, Adopts, Acknowledges, Decides, collects, adopts, acknowledges, decides, rests}
+use Rattle.last_rule.proofs.Locked.{Locked, locked_one, locked_held}
+use Rattle.last_rule.proofs.Committed.{Start, Collected, Adopted, Acknowledged, collect_step, adopt_step, acknowledge_step, decide_step}
 
 module _ (values : List ℕ) (opening : Opening last values) (H : Heard) where
   abbrev n : ℕ

@@ -5,8 +5,9 @@ use Rattle.std.proofs.Common.{sym, ap, subst, ◌∙◌, inl, inr, arith}
 use Rattle.std.proofs.lemmas.Bool.{cond_both, ltb-true, ltb-false, cases_eq, cases_lt, false≢true}
 use Rattle.lists.proofs.Options.{none_some, same_some}
 use Rattle.lists.proofs.Counting.{found_by}
-use Rattle.last.specs.declared.Letter.{Letter}
-use Rattle.last.specs.Last.{stamped, Mailbox, At, heard, Signed, later, latest_from, latest, Latest}
+use Rattle.last_rule.specs.declared.Letter.{Letter}
+use Rattle.last_rule.specs.Last.{stamped, Mailbox, At, heard, Signed, later, latest_from, latest}
+use Rattle.last_rule.specs.Moves.{Latest}
 
 -- a place that has a letter
 pub letter_there : (o : Option Letter) → is_some o ≡ true → (l : Letter) × (o ≡ Some l)

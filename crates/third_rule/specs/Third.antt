@@ -1,9 +1,9 @@
 -- OneThirdRule.
-use Rattle.std.specs.Prelude.{◌≡◌, ℕ, ◌*◌, ◌/◌, ◌%◌, ◌^◌, ◌<◌, ◌≤◌, Bool, false, cond, not, ◌&&◌, ◌||◌, List, [], ◌∷◌, length, is_some, Some, None, fold, count_by, Option, ◌==◌, nat_le, nat_lt}
+use Rattle.std.specs.Prelude.{ℕ, ◌*◌, ◌/◌, ◌%◌, ◌^◌, Bool, false, cond, not, ◌&&◌, ◌||◌, List, [], ◌∷◌, length, is_some, Some, None, fold, count_by, Option, ◌==◌, nat_le, nat_lt}
 use Rattle.std.specs.Option.{option_or}
 use Rattle.rules.specs.Rule.{Behaviour, outside}
-use Rattle.third.specs.declared.State.{State}
-use Rattle.third.specs.declared.Letter.{Letter}
+use Rattle.third_rule.specs.declared.State.{State}
+use Rattle.third_rule.specs.declared.Letter.{Letter}
 
 abbrev pub Mailbox : Type 0
 Mailbox = List (Option Letter)
@@ -21,16 +21,6 @@ heard m = count_by is_some m
 -- how often a value occurs
 abbrev pub occurs : ℕ → Mailbox → ℕ
 occurs v m = count_by (says v) m
-
--- v is the value that occurs most often, the smallest of these in a tie
-pub record MostFrequent (m : Mailbox) (v : ℕ) : Type 0 where
-  pub there : 0 < occurs v m
-  pub none_more : (x : ℕ) → occurs x m ≤ occurs v m
-  pub smallest : (x : ℕ) → occurs x m ≡ occurs v m → v ≤ x
-
--- v occurs at more than two thirds of n stations
-abbrev pub Quorum : ℕ → Mailbox → ℕ → Type 0
-Quorum n m v = 2 * n < 3 * occurs v m
 
 -- ---- the rule as functions
 -- x, which occurs i times, goes before y, which occurs j times: it occurs more often, or as often and is smaller
@@ -75,13 +65,3 @@ third = record {
 -- the letters whose numbers are within their ranges
 abbrev pub letter_fits : Letter → Bool
 letter_fits l = nat_lt l.value (2 ^ 16)
-
--- ---- what a round does, without a word on how it is computed: s is the state before it and r the state after it
-pub record Moves (n : ℕ) (s : State) (m : Mailbox) (r : State) : Type 0 where
-  -- a station that hears more than two thirds takes the most frequent value, and any other keeps its own
-  pub takes : 2 * n < 3 * heard m → MostFrequent m r.value
-  pub keeps : 3 * heard m ≤ 2 * n → r.value ≡ s.value
-  -- a hull that is shown stays; if there was none, it is the value of a quorum
-  pub stays : (h : ℕ) → s.hull ≡ Some h → r.hull ≡ Some h
-  pub shows : (v : ℕ) → s.hull ≡ None → Quorum n m v → r.hull ≡ Some v
-  pub only_shows : (v : ℕ) → s.hull ≡ None → r.hull ≡ Some v → Quorum n m v

@@ -7,12 +7,12 @@ use Rattle.std.proofs.lemmas.Bool.{ltb-true, eqb-true, eq-eqb, cases_lt, cond_bo
 use Rattle.lists.specs.Lists.{tabulate}
 use Rattle.std.specs.Option.{option_or}
 use Rattle.rules.specs.Rule.{Heard, lockstep, outside, Agreement, Validity}
-use Rattle.third.specs.declared.Letter.{Letter}
-use Rattle.third.specs.declared.State.{State}
-use Rattle.third.specs.Third.{third, says, heard, occurs, most_frequent, quorum_value, next_value}
+use Rattle.third_rule.specs.declared.Letter.{Letter}
+use Rattle.third_rule.specs.declared.State.{State}
+use Rattle.third_rule.specs.Third.{third, says, heard, occurs, most_frequent, quorum_value, next_value}
 use Rattle.lists.proofs.Options.{none_some}
 use Rattle.lists.proofs.Counting.{count, overlap, no_fewer, witness, meet, count_by_tabulate}
-use Rattle.third.specs.Mailbox.{winner_most, winner_heard, quorum_occurs}
+use Rattle.third_rule.proofs.Mailbox.{winner_most, winner_heard, quorum_occurs}
 
 -- what holds of the state and of a changed one holds of the next
 pub by_next : (P : State → Type 0) (n p k : ℕ) (s : State) (m : List (Option Letter)) → P s → P (record { value = next_value n s.value m; hull = option_or s.hull (quorum_value n m) }) → P (third.next n p k s m)

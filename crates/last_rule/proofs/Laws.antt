@@ -6,12 +6,12 @@ use Rattle.rules.specs.Rule.{outside, Interface, Codec, Ranges, Laws, MailFits}
 use Rattle.std.proofs.lemmas.Bool.Decides.{nat_tests}
 use Rattle.std.proofs.lemmas.Float.{T_from_true}
 use Rattle.lists.proofs.Options.{holds, only, unless}
-use Rattle.last.specs.declared.State.{State}
-use Rattle.last.specs.declared.Letter.{Letter}
-use Rattle.last.specs.Last.{last, letter_fits, Mailbox, writes}
-use Rattle.last.specs.Calls.{letter_is, by_step_both, by_next, stable}
-use Rattle.last.specs.Codec.{reads_back, counts_itself, packs_again}
-use Rattle.last.specs.Agreement.{agreement, validity}
+use Rattle.last_rule.specs.declared.State.{State}
+use Rattle.last_rule.specs.declared.Letter.{Letter}
+use Rattle.last_rule.specs.Last.{last, letter_fits, Mailbox, writes}
+use Rattle.last_rule.proofs.Calls.{letter_is, by_step_both, by_next, stable}
+use Rattle.last_rule.proofs.Codec.{reads_back, counts_itself, packs_again}
+use Rattle.last_rule.proofs.Agreement.{agreement, validity}
 
 -- ---- ranges
 abbrev state_fits : State → Bool

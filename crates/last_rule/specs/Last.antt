@@ -1,9 +1,9 @@
 -- LastVoting. Four rounds are a phase, and each phase has a coordinator: it collects the stations' values and commits to
 -- one, the stations adopt that, they acknowledge it, and they decide.
-use Rattle.std.specs.Prelude.{◌≡◌, ℕ, suc, ◌+◌, ◌*◌, ◌/◌, ◌%◌, ◌^◌, ◌<◌, ◌≤◌, min, Bool, true, false, cond, not, ◌&&◌, ◌||◌, List, [], ◌∷◌, length, is_some, Some, None, count_by, Option, ◌==◌, nat_le, nat_lt, slice_index_or}
+use Rattle.std.specs.Prelude.{◌≡◌, ℕ, suc, ◌+◌, ◌*◌, ◌/◌, ◌%◌, ◌^◌, min, Bool, true, false, cond, not, ◌&&◌, ◌||◌, List, [], ◌∷◌, length, is_some, Some, None, count_by, Option, ◌==◌, nat_le, nat_lt, slice_index_or}
 use Rattle.rules.specs.Rule.{Behaviour, outside}
-use Rattle.last.specs.declared.State.{State}
-use Rattle.last.specs.declared.Letter.{Letter}
+use Rattle.last_rule.specs.declared.State.{State}
+use Rattle.last_rule.specs.declared.Letter.{Letter}
 
 -- ---- rounds
 abbrev pub phase : (round : ℕ) → ℕ
@@ -54,12 +54,6 @@ latest_from q best (Some l ∷ m) = latest_from (suc q) (Some (later best (q, l)
 -- the letter with the largest stamp, the lowest sender's in a tie
 abbrev pub latest : Mailbox → Option Signed
 latest m = latest_from 0 None m
-
--- what that says: the letter is there, no letter has a larger stamp, and none of a lower sender has as large a stamp
-pub record Latest (m : Mailbox) (q : ℕ) (l : Letter) : Type 0 where
-  pub there : At m q l
-  pub largest : (p : ℕ) (k : Letter) → At m p k → stamped k.stamp ≤ stamped l.stamp
-  pub lowest : (p : ℕ) (k : Letter) → p < q → At m p k → stamped k.stamp < stamped l.stamp
 
 -- ---- what a step makes of a state
 abbrev pub committed_to : (vote : ℕ) → State → State
@@ -162,9 +156,3 @@ last = record {
 -- the letters whose numbers are within their ranges
 abbrev pub letter_fits : Letter → Bool
 letter_fits l = nat_lt l.value (2 ^ 16) && nat_le l.stamp 1024
-
--- what a coordinator that collects votes for: the latest letter of its mailbox, if it hears more than half
-abbrev pub VotesForLatest : (n station round : ℕ) → (before : State) → Mailbox → (after : State) → Type 0
-VotesForLatest n p k s m after =
-    outside 16 n p k ≡ false → length m ≡ n → k % 4 ≡ 0 → p ≡ coordinator n k → n < 2 * heard m →
-    (q : ℕ) × (l : Letter) × Latest m q l × (after ≡ committed_to l.value s)
