@@ -2,6 +2,7 @@
 use Rattle.std.specs.Prelude.{ℕ, zero, suc, ◌+◌, ◌-◌, Bool, true, false, cond, not, ◌||◌, List, [], ◌∷◌, ◌++◌, length, get_or, set, replicate, Some, None, Ok, Err, Option, Result, ◌==◌, nat_lt, slice_index, slice_index_or, slice_set}
 use Rattle.lists.specs.Lists.{tabulate, written, put}
 use Rattle.rules.specs.Rule.{Behaviour}
+use Rattle.protocol.specs.declared.TheConstants.{MAX_POOL, MAX_BOOK}
 use Rattle.protocol.specs.declared.types.StationRecord.{StationRecord}
 use Rattle.protocol.specs.declared.types.Stand.TheVariants.{Fresh, Listening, Down}
 use Rattle.protocol.specs.declared.refusal.Refusal.{Refusal}
@@ -86,7 +87,7 @@ module _ {S L : Type 0} (R : Behaviour S L) where
       let n : ℕ = length values in
       (not (w.n == 0), AlreadyOpen) ∷
       (n == 0 || nat_lt R.most n, ValueCount) ∷
-      (length w.pool == 0 || nat_lt 4096 (length w.pool) || nat_lt 65536 (length w.book), BufferSize) ∷
+      (length w.pool == 0 || nat_lt MAX_POOL (length w.pool) || nat_lt MAX_BOOK (length w.book), BufferSize) ∷
       (nat_lt (length w.states) n || nat_lt (length w.letters) (letter_cells n), BufferMismatch) ∷ []
 
   abbrev pub open_refusal : World S L → List ℕ → Option Refusal

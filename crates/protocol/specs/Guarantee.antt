@@ -1,5 +1,6 @@
 -- What is found after every list of a planner's calls, for every rule that keeps its laws.
 use Rattle.std.specs.Prelude.{◌≡◌, ℕ, ◌-◌, ◌^◌, ◌<◌, ◌≤◌, Bool, List, [], ◌∷◌, ◌++◌, map, length, take, replicate, count_by, Some, None, Ok, Option, ◌==◌, slice_index}
+use Rattle.rules.specs.declared.TheConstants.{LAST_ROUND}
 use Rattle.rules.specs.Rule.{Behaviour, Interface, Laws, Ranges, lockstep}
 use Rattle.protocol.specs.declared.refusal.Refusal.{Refusal}
 use Rattle.protocol.specs.declared.types.Step.{Step}
@@ -81,7 +82,7 @@ module _ {S L : Type 0} (R : Behaviour S L) (values : List ℕ) (w : World S L) 
     pub filled : (left calls).entries ≡ length (tally_of calls).triples
     -- each station's round is the number of its accepted turns, and none is past the last
     pub counted : (p : ℕ) → p < length values → round_of calls p ≡ turns_by p (turns_in calls)
-    pub limited : (p : ℕ) → p < length values → round_of calls p ≤ 4095
+    pub limited : (p : ℕ) → p < length values → round_of calls p ≤ LAST_ROUND
     -- no call changes a size, and a look at a station is never refused: it answers the stand, the round and the hull or none
     pub sized : SameSizes w (left calls)
     pub seen : (p : ℕ) → p < length values → look_call R (left calls) p ≡ (Ok (sight_of R (left calls) p), left calls)

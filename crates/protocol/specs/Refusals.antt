@@ -1,27 +1,33 @@
 -- The refusals and their numbers, and what a refused call leaves.
 use Rattle.std.specs.Prelude.{ℕ, Bool, cond, List, [], ◌∷◌, Some, None, Ok, Err, Option, Result}
+use Rattle.refusal_numbers.specs.declared.Reason.{Reason}
+use Rattle.refusal_numbers.specs.declared.Reason.TheVariants as table
+use Rattle.refusal_numbers.specs.Numbers.{number_of}
 use Rattle.frames.specs.declared.pool.PoolRefusal.{PoolRefusal}
 use Rattle.frames.specs.declared.pool.PoolRefusal.TheVariants as pool
 use Rattle.protocol.specs.declared.refusal.Refusal.{Refusal}
 use Rattle.protocol.specs.declared.refusal.Refusal.TheVariants.{Shut, AlreadyOpen, ValueCount, BufferSize, BufferMismatch, NoSuchStation, NoSuchPlace, Unreadable, StationDown, AlreadySent, NotListening, HoldsLetter, PoolFull, BookFull, LastRound}
 
--- the number of each refusal, in checking order
+-- the reason that each refusal is, in checking order, and its number
+abbrev pub reason : Refusal → Reason
+reason Shut = table.Shut
+reason AlreadyOpen = table.AlreadyOpen
+reason ValueCount = table.ValueCount
+reason BufferSize = table.BufferSize
+reason BufferMismatch = table.BufferMismatch
+reason NoSuchStation = table.NoSuchStation
+reason NoSuchPlace = table.NoSuchPlace
+reason Unreadable = table.Unreadable
+reason StationDown = table.StationDown
+reason AlreadySent = table.AlreadySent
+reason NotListening = table.NotListening
+reason HoldsLetter = table.HoldsLetter
+reason PoolFull = table.PoolFull
+reason BookFull = table.BookFull
+reason LastRound = table.LastRound
+
 abbrev pub refusal_number : Refusal → ℕ
-refusal_number Shut = 1
-refusal_number AlreadyOpen = 2
-refusal_number ValueCount = 3
-refusal_number BufferSize = 4
-refusal_number BufferMismatch = 5
-refusal_number NoSuchStation = 6
-refusal_number NoSuchPlace = 7
-refusal_number Unreadable = 8
-refusal_number StationDown = 9
-refusal_number AlreadySent = 10
-refusal_number NotListening = 11
-refusal_number HoldsLetter = 12
-refusal_number PoolFull = 13
-refusal_number BookFull = 14
-refusal_number LastRound = 15
+refusal_number f = number_of (reason f)
 
 -- a refusal of the pool, as the shed tells it
 abbrev pub of_pool : PoolRefusal → Refusal

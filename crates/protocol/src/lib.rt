@@ -8,6 +8,12 @@ use rules::Rule;
 pub mod refusal;
 pub mod types;
 
+/// The most words of a pool.
+pub const MAX_POOL: usize = 4096;
+
+/// The most words of a book.
+pub const MAX_BOOK: usize = 65536;
+
 // The guarantee holds for every rule, by its interface and its laws alone.
 pub fn guarantee_holds<R: Rule>(rule: &R) -> u8
     ensures { Guaranteed (R.Rule.behaviour rule.now) }

@@ -1,37 +1,38 @@
 // Why a call is refused.
 ghost use Rattle.std.specs.Prelude.{◌≡◌};
-ghost use Rattle.protocol.specs.Refusals.{refusal_number, of_pool};
+ghost use Rattle.protocol.specs.Refusals.{reason, refusal_number, of_pool};
 
 use frames::pool::PoolRefusal;
+use refusal_numbers::Reason;
 
 // In checking order. Whatever is refused leaves the shed and its buffers as they were.
 #[derive(Clone, Copy, Debug, PartialEq, Eq)]
 pub enum Refusal {
     // The shed is not open.
-    Shut = 1,
+    Shut,
     // The shed is open already.
-    AlreadyOpen = 2,
+    AlreadyOpen,
     // There are no opening values, or more than the rule's most stations.
-    ValueCount = 3,
+    ValueCount,
     // The pool is empty or too long, or the book is too long.
-    BufferSize = 4,
+    BufferSize,
     // A buffer is too short, or the pool or the book has another length than at opening.
-    BufferMismatch = 5,
-    NoSuchStation = 6,
-    NoSuchPlace = 7,
+    BufferMismatch,
+    NoSuchStation,
+    NoSuchPlace,
     // The word at the place is no frame of these stations and this rule.
-    Unreadable = 8,
-    StationDown = 9,
+    Unreadable,
+    StationDown,
     // The station listens: it has sent in this round.
-    AlreadySent = 10,
+    AlreadySent,
     // The station is fresh: it has not sent in this round.
-    NotListening = 11,
+    NotListening,
     // The station holds a letter for a later round.
-    HoldsLetter = 12,
-    PoolFull = 13,
-    BookFull = 14,
+    HoldsLetter,
+    PoolFull,
+    BookFull,
     // The station is in the last round, or a run is asked for past it.
-    LastRound = 15,
+    LastRound,
 }
 
 impl Refusal {
@@ -39,7 +40,31 @@ impl Refusal {
     pub fn number(&self) -> u8
         ensures { result ≡ refusal_number self.now }
     {
-        *self as u8
+        Reason::from(*self).number()
+    }
+}
+
+impl From<Refusal> for Reason {
+    ghost from_gives = { λ f r. r ≡ reason f };
+
+    fn from(refusal: Refusal) -> Reason {
+        match refusal {
+            Refusal::Shut => Reason::Shut,
+            Refusal::AlreadyOpen => Reason::AlreadyOpen,
+            Refusal::ValueCount => Reason::ValueCount,
+            Refusal::BufferSize => Reason::BufferSize,
+            Refusal::BufferMismatch => Reason::BufferMismatch,
+            Refusal::NoSuchStation => Reason::NoSuchStation,
+            Refusal::NoSuchPlace => Reason::NoSuchPlace,
+            Refusal::Unreadable => Reason::Unreadable,
+            Refusal::StationDown => Reason::StationDown,
+            Refusal::AlreadySent => Reason::AlreadySent,
+            Refusal::NotListening => Reason::NotListening,
+            Refusal::HoldsLetter => Reason::HoldsLetter,
+            Refusal::PoolFull => Reason::PoolFull,
+            Refusal::BookFull => Reason::BookFull,
+            Refusal::LastRound => Reason::LastRound,
+        }
     }
 }
 

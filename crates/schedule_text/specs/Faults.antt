@@ -1,14 +1,20 @@
 -- The number and the line of each fault of a schedule's text.
 use Rattle.std.specs.Prelude.{ℕ}
+use Rattle.refusal_numbers.specs.declared.Reason.{Reason}
+use Rattle.refusal_numbers.specs.declared.Reason.TheVariants as table
+use Rattle.refusal_numbers.specs.Numbers.{number_of}
 use Rattle.schedule_text.specs.declared.types.Fault.{Fault}
 use Rattle.schedule_text.specs.declared.types.Fault.TheVariants.{TooLong, WrongRule, WrongValues, WrongStep, Unfinished}
 
+abbrev pub reason : Fault → Reason
+reason TooLong = table.TooLong
+reason WrongRule = table.WrongRule
+reason WrongValues = table.WrongValues
+reason (WrongStep line) = table.WrongStep
+reason (Unfinished line) = table.Unfinished
+
 abbrev pub fault_number : Fault → ℕ
-fault_number TooLong = 16
-fault_number WrongRule = 17
-fault_number WrongValues = 18
-fault_number (WrongStep line) = 19
-fault_number (Unfinished line) = 20
+fault_number f = number_of (reason f)
 
 abbrev pub fault_line : Fault → ℕ
 fault_line TooLong = 0

@@ -1,11 +1,12 @@
 // A schedule, and what can be wrong with its text.
 ghost use Rattle.std.specs.Prelude.{◌≡◌};
 ghost use Rattle.schedule_text.specs.declared.halt.Halt.TheVariants.{Refused};
-ghost use Rattle.schedule_text.specs.Faults.{fault_number, fault_line};
+ghost use Rattle.schedule_text.specs.Faults.{reason, fault_number, fault_line};
 
 use crate::halt::Halt;
 use catalogue::RuleName;
 use protocol::types::Step;
+use refusal_numbers::Reason;
 
 /// A rule's name, the stations' opening values, and the steps in their order.
 #[derive(Debug, PartialEq, Eq, Drop)]
@@ -35,13 +36,7 @@ impl Fault {
     pub fn number(&self) -> u8
         ensures { result ≡ fault_number self.now }
     {
-        match self {
-            Fault::TooLong => 16,
-            Fault::WrongRule => 17,
-            Fault::WrongValues => 18,
-            Fault::WrongStep(_) => 19,
-            Fault::Unfinished(_) => 20,
-        }
+        Reason::from(*self).number()
     }
 
     /// The line that the fault names; 0 for a text that is too long.
@@ -53,6 +48,20 @@ impl Fault {
             Fault::WrongRule => 1,
             Fault::WrongValues => 2,
             Fault::WrongStep(line) | Fault::Unfinished(line) => *line,
+        }
+    }
+}
+
+impl From<Fault> for Reason {
+    ghost from_gives = { λ f r. r ≡ reason f };
+
+    fn from(fault: Fault) -> Reason {
+        match fault {
+            Fault::TooLong => Reason::TooLong,
+            Fault::WrongRule => Reason::WrongRule,
+            Fault::WrongValues => Reason::WrongValues,
+            Fault::WrongStep(_) => Reason::WrongStep,
+            Fault::Unfinished(_) => Reason::Unfinished,
         }
     }
 }

@@ -9,12 +9,8 @@ use crate::shed::Shed;
 use crate::table::Table;
 use frames::pool::clear;
 use protocol::refusal::Refusal;
+use protocol::{MAX_BOOK, MAX_POOL};
 use rules::{Rule, first_states};
-
-// The most words of a pool, and of a book.
-const MAX_POOL: usize = 4096;
-
-const MAX_BOOK: usize = 65536;
 
 impl Shed {
     // A shed that is shut.
