@@ -12,6 +12,8 @@ use Rattle.worked_examples.specs.Words.{WordExamples}
 use Rattle.worked_examples.specs.Calls.{begin, run, RunExample, FateExamples, RefusalExamples, CallExamples}
 use Rattle.schedule_text.specs.Reading.{pieces, read_lines, read_text}
 use Rattle.worked_examples.specs.Texts.{TextExamples}
+use Rattle.schedule.specs.Program.{new_shed}
+use Rattle.worked_examples.specs.Numbers.{ProgramWords}
 use Rattle.worked_examples.proofs.Hearing.{any_two_of_three, any_three_of_four}
 
 pub third_rounds : ThirdExamples
@@ -86,3 +88,7 @@ texts = record {
   wrong_step = refl;
   cut_short = refl;
 }
+
+pub program_words : ProgramWords
+unfolding new_shed
+program_words = record { pool = refl; book = refl }

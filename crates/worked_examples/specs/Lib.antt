@@ -2,3 +2,4 @@ pub mod Rules
 pub mod Words
 pub mod Calls
 pub mod Texts
+pub mod Numbers

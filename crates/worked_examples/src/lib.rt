@@ -2,11 +2,12 @@
 // some of them and promises the values that they compute.
 #![tactic(auto)]
 
-ghost use Rattle.std.specs.Prelude.{◌≡◌, Some, map};
+ghost use Rattle.std.specs.Prelude.{◌≡◌, [], ◌∷◌, Some, map};
 ghost use Rattle.worked_examples.specs.Rules.{ThirdExamples, LastExamples, third_states, last_states, unpacked};
 ghost use Rattle.worked_examples.specs.Words.{WordExamples, words};
 ghost use Rattle.worked_examples.specs.Calls.{CallExamples, told, settled, book_words};
 ghost use Rattle.worked_examples.specs.Texts.{TextExamples, IsPlanned, two_steps_plan};
+ghost use Rattle.worked_examples.specs.Numbers.{ProgramWords};
 
 use conduct::conduct;
 use frames::book::pack_entry;
@@ -14,8 +15,8 @@ use frames::frame::pack_frame;
 use last::Last;
 use protocol::refusal::Refusal;
 use protocol::types::Step;
-use rules::Rule;
-use schedule_text::reader::read_schedule;
+use rules::{LAST_ROUND, Rule};
+use schedule_text::reader::{FIRST_STEP, MAX_BYTES, MAX_VALUES, read_schedule};
 use schedule_text::types::{ReadError, Schedule};
 use shed_core::buffers::Buffers;
 use std::alloc::Global;
@@ -162,4 +163,12 @@ pub fn read_two_steps(heap: Global) -> Result<Schedule, ReadError>
     ensures examples { TextExamples }
 {
     read_schedule(heap, b"rule third\nvalues 9 7\ns 0\nd 12\n")
+}
+
+/// The last round, and of a schedule the most bytes, the most opening values and the line of the first step.
+pub fn bounds() -> [usize; 4]
+    ensures bounds { result ≡ 4095 ∷ 65536 ∷ 16 ∷ 3 ∷ [] }
+    ensures words { ProgramWords }
+{
+    [usize::from(LAST_ROUND), MAX_BYTES, MAX_VALUES, FIRST_STEP]
 }
