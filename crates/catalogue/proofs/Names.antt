@@ -1,12 +1,10 @@
 -- A name is read from the one text that writes it.
-use Rattle.std.proofs.Common.{◌≡◌, ℕ, false, List, Some, None, Ok, Err, Result, codes, IsUtf8, sym, refl, subst, arith, rules}
+use Rattle.std.proofs.Common.{◌≡◌, ℕ, false, List, Some, None, codes, IsUtf8, sym, refl, subst, arith, rules}
 use Rattle.std.proofs.ByRecursion.{IsAscii-from_all}
-use Rattle.std.specs.Result.{MatchResult, result_ok}
 use Rattle.std.specs.Str.{bytes_eq}
 use Rattle.std.specs.List.{AllByRecursion}
 use Rattle.std.proofs.lemmas.Slice.Eq.{bytes_eq-Decides}
 use Rattle.std.proofs.lemmas.Str.{IsUtf8-from_ascii}
-use Rattle.lists.proofs.Options.{none_some}
 use Rattle.catalogue.specs.declared.RuleName.{RuleName}
 use Rattle.catalogue.specs.declared.RuleName.TheVariants.{Third, Last}
 use Rattle.catalogue.specs.Names.{text_of, NameFits, name_in, NamesReadBack}
@@ -25,11 +23,6 @@ name_is_text Last = IsUtf8-from_ascii (codes "last") (IsAscii-from_all (codes "l
 -- bytes that are no text name no rule
 pub no_text : (bytes : List ℕ) → (IsUtf8 bytes → ⊥) → None ≡ name_in bytes
 no_text bytes wild = no_name bytes (λ name e. wild (subst IsUtf8 (sym e) (name_is_text name)))
-
--- where `ok` dropped the error of an answer, it is the error that was answered
-pub dropped : {T E : Type 0} (P : T → Type 0) (Q : E → Type 0) (r : Result T E) → MatchResult r P Q → None ≡ result_ok r → (e : E) × Q e
-dropped P Q (Ok y) h e = none_some e
-dropped P Q (Err y) h e = (y, h)
 
 written : (bytes : List ℕ) (name : RuleName) → name_in bytes ≡ Some name → text_of name ≡ bytes
 written bytes name e = grind (arith, (bytes_eq-Decides bytes (codes "third")).0, (bytes_eq-Decides bytes (codes "last")).0)

@@ -17,12 +17,14 @@ holds line text e =
     let count : line.filled ≡ length text = sym (length-take-le line.filled line.cells (omega (arith, line.all, line.within))) ∙ ap length e in
     record {
       fits = omega (arith, line.within);
-      cells = sym (take-append-drop line.filled line.cells) ∙ ap (λ l. l ++ drop line.filled line.cells) e ∙ ap (λ l. text ++ l) line.blank ∙ ap (λ n. text ++ replicate (CELLS - n) 32) count;
+      cells = sym (take-append-drop line.filled line.cells) ∙ ap (λ l. l ++ drop line.filled line.cells) e ∙ ap (λ l. text ++ l) line.blank
+          ∙ ap (λ n. text ++ replicate (CELLS - n) 32) count;
       length_is = count;
     }
 
 -- text that is written over the first blanks leaves the others
-pub blanks_left : (cells text : List ℕ) (from upto : ℕ) → length cells ≡ CELLS → upto ≡ from + length text → upto ≤ CELLS → drop from cells ≡ replicate (CELLS - from) 32 → drop upto (put_mid from (upto - from) cells text) ≡ replicate (CELLS - upto) 32
+pub blanks_left : (cells text : List ℕ) (from upto : ℕ) → length cells ≡ CELLS → upto ≡ from + length text → upto ≤ CELLS →
+    drop from cells ≡ replicate (CELLS - from) 32 → drop upto (put_mid from (upto - from) cells text) ≡ replicate (CELLS - upto) 32
 blanks_left cells text from upto whole is within blank = grind (arith, common_steps, drop-put_mid from (upto - from) cells text, drop-replicate)
 
 pub decimal_20 : (n : ℕ) → n < 2 ^ 64 → length (decimal n) ≤ 20

@@ -2,3 +2,4 @@ pub mod Options
 pub mod Tables
 pub mod Counting
 pub mod Places
+pub mod Results

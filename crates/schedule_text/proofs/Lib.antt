@@ -1,6 +1,5 @@
 pub mod Cutting
 pub mod Judged
-pub mod Lines
 pub mod NextStep
 pub mod Numbers
 pub mod ReadBack

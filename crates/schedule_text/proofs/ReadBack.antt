@@ -1,6 +1,7 @@
 -- Reading a written schedule gives it back.
 use Rattle.std.proofs.lemmas.Bool.Decides.{nat_tests}
-use Rattle.std.proofs.Common.{◌≡◌, ℕ, suc, ◌+◌, ◌%◌, ◌^◌, ◌<◌, ◌≤◌, Bool, true, false, not, ◌&&◌, eqb, List, [], ◌∷◌, ◌++◌, map, length, Some, Ok, codes, decimal, sym, refl, ap, ◌∙◌, append_assoc, append-nil, arith}
+use Rattle.std.proofs.Common.{◌≡◌, ℕ, suc, ◌+◌, ◌%◌, ◌^◌, ◌<◌, ◌≤◌, Bool, true, false, not, ◌&&◌, eqb, List, [], ◌∷◌, ◌++◌, map, length, Some, Ok}
+use Rattle.std.proofs.Common.{codes, decimal, sym, refl, ap, ◌∙◌, append_assoc, append-nil, arith}
 use lib.ListN.{length-map}
 use Rattle.std.specs.List.{flat_map, AllByRecursion}
 use Rattle.std.proofs.lemmas.Fmt.{decimal_by_steps}
@@ -30,13 +31,13 @@ pub without_append : (mark : ℕ) (xs bs : List ℕ) → without mark xs ≡ tru
 without_append mark [] bs p q = q
 without_append mark (a ∷ xs) bs p q = grind (arith, without_append mark xs bs, q)
 
-plain : (mark b : ℕ) (bs : List ℕ) → mark < 48 → 48 ≤ b → without mark bs ≡ true → without mark (b ∷ bs) ≡ true
-plain mark b bs low high p = grind (arith, nat_tests)
+without_digit : (mark b : ℕ) (bs : List ℕ) → mark < 48 → 48 ≤ b → without mark bs ≡ true → without mark (b ∷ bs) ≡ true
+without_digit mark b bs low high p = grind (arith, nat_tests)
 
 pub without_decimal : (mark n : ℕ) → mark < 48 → n < 2 ^ 16 → without mark (decimal n) ≡ true
 without_decimal mark n low small = decimal_by_steps (λ m ds. without mark ds ≡ true)
-    (λ m one. plain mark (48 + m) [] low (omega arith) refl)
-    (λ m ds more before. without_append mark ds ((48 + m % 10) ∷ []) before (plain mark (48 + m % 10) [] low (omega arith) refl))
+    (λ m one. without_digit mark (48 + m) [] low (omega arith) refl)
+    (λ m ds more before. without_append mark ds ((48 + m % 10) ∷ []) before (without_digit mark (48 + m % 10) [] low (omega arith) refl))
     n (omega arith)
 
 -- a piece and its mark
@@ -51,16 +52,19 @@ pieces_all mark [] p = refl
 pieces_all mark (b ∷ line) p = grind (arith, nat_tests, pieces_all mark line)
 
 -- ---- the values
-words_back : (word : List ℕ) (vs : List ℕ) → without 32 word ≡ true → AllByRecursion (λ n. n < 2 ^ 16) vs → pieces 32 (word ++ flat_map write_value vs) ≡ word ∷ map decimal vs
+words_back : (word : List ℕ) (vs : List ℕ) → without 32 word ≡ true → AllByRecursion (λ n. n < 2 ^ 16) vs →
+    pieces 32 (word ++ flat_map write_value vs) ≡ word ∷ map decimal vs
 words_back word [] p fit = ap (pieces 32) (append-nil word) ∙ pieces_all 32 word p
 words_back word (v ∷ vs) p fit =
-    pieces_line 32 word (decimal v ++ flat_map write_value vs) p ∙ ap (λ ws. word ∷ ws) (words_back (decimal v) vs (without_decimal 32 v (omega arith) fit.0) fit.1)
+    pieces_line 32 word (decimal v ++ flat_map write_value vs) p
+    ∙ ap (λ ws. word ∷ ws) (words_back (decimal v) vs (without_decimal 32 v (omega arith) fit.0) fit.1)
 
 numbers_back : (vs : List ℕ) → AllByRecursion (λ n. n < 2 ^ 16) vs → numbers_in (map decimal vs) ≡ Some vs
 numbers_back [] fit = refl
 numbers_back (v ∷ vs) fit = grind (arith, number_back v fit.0, numbers_back vs fit.1)
 
-pub values_back : (vs : List ℕ) → 0 < length vs → length vs ≤ 16 → AllByRecursion (λ n. n < 2 ^ 16) vs → Some vs ≡ values_line (codes "values" ++ flat_map write_value vs)
+pub values_back : (vs : List ℕ) → 0 < length vs → length vs ≤ 16 → AllByRecursion (λ n. n < 2 ^ 16) vs →
+    Some vs ≡ values_line (codes "values" ++ flat_map write_value vs)
 values_back vs some few fit =
     let count : length (map decimal vs) ≡ length vs = length-map vs decimal in
     let words = words_back (codes "values") vs refl fit in
@@ -71,27 +75,27 @@ without_values [] fit = refl
 without_values (v ∷ vs) fit = without_append 10 (decimal v) (flat_map write_value vs) (without_decimal 10 v (omega arith) fit.0) (without_values vs fit.1)
 
 -- ---- the steps
-step_is : (s : Step) → step_with (letter_of s) (Some (number_of s)) ≡ Some s
-step_is (Send n) = refl
-step_is (Deliver n) = refl
-step_is (Drop n) = refl
-step_is (Repeat n) = refl
-step_is (Turn n) = refl
-step_is (Crash n) = refl
+letter_step : (s : Step) → step_with (letter_of s) (Some (number_of s)) ≡ Some s
+letter_step (Send n) = refl
+letter_step (Deliver n) = refl
+letter_step (Drop n) = refl
+letter_step (Repeat n) = refl
+letter_step (Turn n) = refl
+letter_step (Crash n) = refl
 
 pub step_back : (s : Step) → number_of s < 2 ^ 16 → step_line (write_step s) ≡ Some s
-step_back s fit = ap (step_with (letter_of s)) (number_back (number_of s) fit) ∙ step_is s
+step_back s fit = ap (step_with (letter_of s)) (number_back (number_of s) fit) ∙ letter_step s
 
-letter_plain : (s : Step) → eqb (letter_of s) 10 ≡ false
-letter_plain (Send n) = refl
-letter_plain (Deliver n) = refl
-letter_plain (Drop n) = refl
-letter_plain (Repeat n) = refl
-letter_plain (Turn n) = refl
-letter_plain (Crash n) = refl
+letter_unbroken : (s : Step) → eqb (letter_of s) 10 ≡ false
+letter_unbroken (Send n) = refl
+letter_unbroken (Deliver n) = refl
+letter_unbroken (Drop n) = refl
+letter_unbroken (Repeat n) = refl
+letter_unbroken (Turn n) = refl
+letter_unbroken (Crash n) = refl
 
 pub without_step : (s : Step) → number_of s < 2 ^ 16 → without 10 (write_step s) ≡ true
-without_step s fit = grind (arith, letter_plain s, without_decimal 10 (number_of s) (omega arith) fit)
+without_step s fit = grind (arith, letter_unbroken s, without_decimal 10 (number_of s) (omega arith) fit)
 
 -- a line's end, and the rest
 pub ended_then : (line rest : List ℕ) → ended line ++ rest ≡ line ++ 10 ∷ rest
@@ -104,8 +108,10 @@ steps_back : (k : ℕ) (ss : List Step) → 3 ≤ k → AllByRecursion (λ s. nu
 unfolding pieces
 steps_back k [] late fit = refl
 steps_back k (s ∷ ss) late fit =
-    let cut : pieces 10 (write_steps (s ∷ ss)) ≡ write_step s ∷ pieces 10 (write_steps ss) = ap (pieces 10) (ended_then (write_step s) (write_steps ss)) ∙ pieces_line 10 (write_step s) (write_steps ss) (without_step s fit.0) in
-    ap (steps_from k) cut ∙ step_more k late (write_step s) s (write_steps ss) (sym (step_back s fit.0)) ∙ ap (prepend (s ∷ [])) (steps_back (suc k) ss (omega arith) fit.1)
+    let cut : pieces 10 (write_steps (s ∷ ss)) ≡ write_step s ∷ pieces 10 (write_steps ss) =
+    ap (pieces 10) (ended_then (write_step s) (write_steps ss)) ∙ pieces_line 10 (write_step s) (write_steps ss) (without_step s fit.0) in
+    ap (steps_from k) cut ∙ step_more k late (write_step s) s (write_steps ss) (sym (step_back s fit.0))
+    ∙ ap (prepend (s ∷ [])) (steps_back (suc k) ss (omega arith) fit.1)
 
 some_steps : (ss : List Step) → 0 < length ss → at_least_one (Ok ss) ≡ Ok ss
 some_steps [] h = absurd (omega arith)
@@ -122,8 +128,12 @@ schedule_back p fits =
     let one = write_rule p.rule in
     let two = codes "values" ++ flat_map write_value p.values in
     let after = write_steps p.steps in
-    let cut : pieces 10 (write_schedule p) ≡ one ∷ pieces 10 (ended two ++ after) = ap (pieces 10) (ended_then one (ended two ++ after)) ∙ pieces_line 10 one (ended two ++ after) (without_rule p.rule) in
-    let again : pieces 10 (ended two ++ after) ≡ two ∷ pieces 10 after = ap (pieces 10) (ended_then two after) ∙ pieces_line 10 two after (without_append 10 (codes "values") (flat_map write_value p.values) refl (without_values p.values fits.values_fit)) in
-    then_steps (write_schedule p) fits.short one (ended two ++ after) cut p.rule (rule_back p.rule fits.rule_fits) two after again p.values (values_back p.values fits.some_values fits.few_values fits.values_fit)
+    let cut : pieces 10 (write_schedule p) ≡ one ∷ pieces 10 (ended two ++ after) =
+    ap (pieces 10) (ended_then one (ended two ++ after)) ∙ pieces_line 10 one (ended two ++ after) (without_rule p.rule) in
+    let again : pieces 10 (ended two ++ after) ≡ two ∷ pieces 10 after =
+    ap (pieces 10) (ended_then two after) ∙ pieces_line 10 two after
+    (without_append 10 (codes "values") (flat_map write_value p.values) refl (without_values p.values fits.values_fit)) in
+    then_steps (write_schedule p) fits.short one (ended two ++ after) cut p.rule (rule_back p.rule fits.rule_fits) two after again p.values
+    (values_back p.values fits.some_values fits.few_values fits.values_fit)
     ∙ ap (λ r. assemble p.rule p.values (at_least_one r)) (steps_back 3 p.steps (omega arith) fits.steps_fit)
     ∙ ap (assemble p.rule p.values) (some_steps p.steps fits.some_steps)

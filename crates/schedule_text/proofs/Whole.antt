@@ -1,7 +1,7 @@
 -- The whole text, from its first line on.
 use Rattle.std.proofs.lemmas.Bool.Decides.{nat_tests}
-use Rattle.std.proofs.Common.{◌≡◌, ℕ, suc, ◌+◌, ◌<◌, ◌≤◌, Bool, true, false, cond, ◌&&◌, eqb, leb, List, [], ◌∷◌, length, is_some, Some, None, Ok, Err, Option, Result, sym, refl, ap, ◌∙◌, arith}
-use Rattle.std.specs.Option.{ok_or}
+use Rattle.std.proofs.Common.{◌≡◌, ℕ, suc, ◌+◌, ◌<◌, ◌≤◌, Bool, true, false, cond, ◌&&◌, eqb, leb, List, [], ◌∷◌, length, is_some, Some, None, Ok}
+use Rattle.std.proofs.Common.{Err, Option, Result, sym, refl, ap, ◌∙◌, arith}
 use Rattle.protocol.specs.declared.types.Step.{Step}
 use Rattle.schedule_text.specs.declared.types.Fault.{Fault}
 use Rattle.schedule_text.specs.declared.types.Fault.TheVariants.{TooLong, WrongRule, WrongValues, WrongStep, Unfinished}
@@ -9,17 +9,9 @@ use Rattle.schedule_text.specs.declared.halt.Halt.{Halt}
 use Rattle.schedule_text.specs.declared.halt.Halt.TheVariants.{Refused, NoMemory}
 use Rattle.catalogue.specs.declared.RuleName.{RuleName}
 use Rattle.schedule_text.specs.declared.reader.TheConstants.{MAX_BYTES, FIRST_STEP}
-use Rattle.schedule_text.specs.Reading.{pieces, all_but_last, last_of, rule_line, values_line, step_line, Plan, first_wrong, and_step, steps_in, unless, read_lines, read_text, steps_from, at_least_one, ReadsSteps, Reads}
+use Rattle.schedule_text.specs.Reading.{pieces, all_but_last, last_of, rule_line, values_line, step_line, Plan, first_wrong, and_step, steps_in}
+use Rattle.schedule_text.specs.Reading.{unless, read_lines, read_text, steps_from, at_least_one, ReadsSteps, Reads}
 use Rattle.schedule_text.proofs.Steps.{some_piece}
-
--- what `ok_or` answered
-pub or_none : {A E : Type 0} (o : Option A) (e f : E) → Err f ≡ ok_or o e → (o ≡ None) × (e ≡ f)
-or_none None e f h = (refl, cc)
-or_none (Some x) e f h = grind arith
-
-pub or_some : {A E : Type 0} (o : Option A) (e : E) (x : A) → Ok x ≡ ok_or o e → Some x ≡ o
-or_some None e x h = cc
-or_some (Some y) e x h = cc
 
 pub too_long : (text : List ℕ) → MAX_BYTES < length text → read_text text ≡ Err TooLong
 unfolding read_text
@@ -44,7 +36,8 @@ no_second : (rule : RuleName) (one t : List ℕ) → Some rule ≡ rule_line one
 unfolding read_lines
 no_second rule one t e = grind (arith, e)
 
-wrong_second : (rule : RuleName) (one two p : List ℕ) (ps : List (List ℕ)) → Some rule ≡ rule_line one → None ≡ values_line two → by_pieces (one ∷ two ∷ p ∷ ps) ≡ Err WrongValues
+wrong_second : (rule : RuleName) (one two p : List ℕ) (ps : List (List ℕ)) → Some rule ≡ rule_line one → None ≡ values_line two →
+    by_pieces (one ∷ two ∷ p ∷ ps) ≡ Err WrongValues
 unfolding read_lines
 wrong_second rule one two p ps e f = grind (arith, e, f)
 
@@ -54,20 +47,28 @@ assemble rule values (Ok steps) = Ok (record { rule = rule; values = values; ste
 assemble rule values (Err f) = Err f
 
 module _ (rule : RuleName) (values : List ℕ) where
-  one_line : (o : Option Step) (w : Option Fault) (t : Bool) (m : ℕ) (ss : List Step) → unless (cond (is_some o) w (Some (WrongStep 3))) (cond (t && leb FIRST_STEP (suc (suc (suc m)))) (Ok (record { rule = rule; values = values; steps = and_step o ss })) (Err (Unfinished (suc (suc (suc m)) + 1)))) ≡ assemble rule values (at_least_one (unless (cond (is_some o) w (Some (WrongStep 3))) (cond t (Ok (and_step o ss)) (Err (Unfinished (suc m + 3))))))
-  one_line None w t m ss = refl
-  one_line (Some s) (Some f) t m ss = refl
-  one_line (Some s) None true m ss = grind (arith, nat_tests)
-  one_line (Some s) None false m ss = grind (arith, nat_tests)
+  first_step_decides : (o : Option Step) (w : Option Fault) (t : Bool) (m : ℕ) (ss : List Step) →
+      unless (cond (is_some o) w (Some (WrongStep 3)))
+      (cond (t && leb FIRST_STEP (suc (suc (suc m)))) (Ok (record { rule = rule; values = values; steps = and_step o ss }))
+      (Err (Unfinished (suc (suc (suc m)) + 1)))) ≡ assemble rule values
+      (at_least_one (unless (cond (is_some o) w (Some (WrongStep 3))) (cond t (Ok (and_step o ss)) (Err (Unfinished (suc m + 3))))))
+  first_step_decides None w t m ss = refl
+  first_step_decides (Some s) (Some f) t m ss = refl
+  first_step_decides (Some s) None true m ss = grind (arith, nat_tests)
+  first_step_decides (Some s) None false m ss = grind (arith, nat_tests)
 
-  lines : (ls : List (List ℕ)) (t : Bool) → unless (first_wrong 3 ls) (cond (t && leb FIRST_STEP (suc (suc (length ls)))) (Ok (record { rule = rule; values = values; steps = steps_in ls })) (Err (Unfinished (suc (suc (length ls)) + 1)))) ≡ assemble rule values (at_least_one (unless (first_wrong 3 ls) (cond t (Ok (steps_in ls)) (Err (Unfinished (length ls + 3))))))
-  lines [] true = refl
-  lines [] false = refl
-  lines (l ∷ ls) t = one_line (step_line l) (first_wrong 4 ls) t (length ls) (steps_in ls)
+  steps_decide_lines : (ls : List (List ℕ)) (t : Bool) →
+      unless (first_wrong 3 ls) (cond (t && leb FIRST_STEP (suc (suc (length ls)))) (Ok (record { rule = rule; values = values; steps = steps_in ls }))
+      (Err (Unfinished (suc (suc (length ls)) + 1)))) ≡ assemble rule values
+      (at_least_one (unless (first_wrong 3 ls) (cond t (Ok (steps_in ls)) (Err (Unfinished (length ls + 3))))))
+  steps_decide_lines [] true = refl
+  steps_decide_lines [] false = refl
+  steps_decide_lines (l ∷ ls) t = first_step_decides (step_line l) (first_wrong 4 ls) t (length ls) (steps_in ls)
 
-  both : (one two p : List ℕ) (ps : List (List ℕ)) → Some rule ≡ rule_line one → Some values ≡ values_line two → by_pieces (one ∷ two ∷ p ∷ ps) ≡ assemble rule values (at_least_one (steps_from 3 (p ∷ ps)))
+  right_lines_assemble : (one two p : List ℕ) (ps : List (List ℕ)) → Some rule ≡ rule_line one → Some values ≡ values_line two →
+      by_pieces (one ∷ two ∷ p ∷ ps) ≡ assemble rule values (at_least_one (steps_from 3 (p ∷ ps)))
   unfolding read_lines
-  both one two p ps e f = rw (← e, ← f) (lines (all_but_last (p ∷ ps)) (eqb (length (last_of (p ∷ ps))) 0))
+  right_lines_assemble one two p ps e f = rw (← e, ← f) (steps_decide_lines (all_but_last (p ∷ ps)) (eqb (length (last_of (p ∷ ps))) 0))
 
 -- the code's way through the text
 module _ (text : List ℕ) (short : length text ≤ MAX_BYTES) where
@@ -85,17 +86,20 @@ module _ (text : List ℕ) (short : length text ≤ MAX_BYTES) where
       lacks_second again = by_pieces_is text short ∙ ap by_pieces (cut ∙ ap (λ ps. one ∷ ps) again) ∙ no_second rule one rest ruled
 
       module _ (two after : List ℕ) (again : pieces 10 rest ≡ two ∷ pieces 10 after) where
-        shape : pieces 10 text ≡ one ∷ two ∷ (some_piece 10 after).0 ∷ (some_piece 10 after).1
-        shape = cut ∙ ap (λ ps. one ∷ ps) (again ∙ ap (λ ps. two ∷ ps) (some_piece 10 after).2)
+        first_two_lines : pieces 10 text ≡ one ∷ two ∷ (some_piece 10 after).0 ∷ (some_piece 10 after).1
+        first_two_lines = cut ∙ ap (λ ps. one ∷ ps) (again ∙ ap (λ ps. two ∷ ps) (some_piece 10 after).2)
 
         pub second_is_wrong : None ≡ values_line two → read_text text ≡ Err WrongValues
-        second_is_wrong e = by_pieces_is text short ∙ ap by_pieces shape ∙ wrong_second rule one two (some_piece 10 after).0 (some_piece 10 after).1 ruled e
+        second_is_wrong e = by_pieces_is text short ∙ ap by_pieces first_two_lines ∙ wrong_second rule one two (some_piece 10 after).0 (some_piece 10 after).1 ruled e
 
-        pub then_steps : (values : List ℕ) → Some values ≡ values_line two → read_text text ≡ assemble rule values (at_least_one (steps_from 3 (pieces 10 after)))
+        pub then_steps : (values : List ℕ) → Some values ≡ values_line two →
+            read_text text ≡ assemble rule values (at_least_one (steps_from 3 (pieces 10 after)))
         then_steps values e =
-            by_pieces_is text short ∙ ap by_pieces shape ∙ both rule values one two (some_piece 10 after).0 (some_piece 10 after).1 ruled e ∙ ap (λ ps. assemble rule values (at_least_one (steps_from 3 ps))) (sym (some_piece 10 after).2)
+            by_pieces_is text short ∙ ap by_pieces first_two_lines ∙ right_lines_assemble rule values one two (some_piece 10 after).0 (some_piece 10 after).1 ruled e
+            ∙ ap (λ ps. assemble rule values (at_least_one (steps_from 3 ps))) (sym (some_piece 10 after).2)
 
 -- the fault of the steps is the fault of the text
-pub steps_fail : (text : List ℕ) → length text ≤ MAX_BYTES → (after : List ℕ) (rule : RuleName) (values : List ℕ) → read_text text ≡ assemble rule values (at_least_one (steps_from 3 (pieces 10 after))) → (e : Halt Fault) → ReadsSteps after (Err e) → Reads text (Err e)
+pub steps_fail : (text : List ℕ) → length text ≤ MAX_BYTES → (after : List ℕ) (rule : RuleName) (values : List ℕ) →
+    read_text text ≡ assemble rule values (at_least_one (steps_from 3 (pieces 10 after))) → (e : Halt Fault) → ReadsSteps after (Err e) → Reads text (Err e)
 steps_fail text short after rule values is (Refused f) h = is ∙ ap (assemble rule values) h
 steps_fail text short after rule values is NoMemory h = short

@@ -4,7 +4,7 @@ use Rattle.std.proofs.lemmas.Grind.{common_steps}
 use Rattle.std.proofs.lemmas.List.{take_rest}
 use Rattle.lists.proofs.Options.{none_some, same_some}
 use Rattle.schedule_text.specs.Reading.{step_line}
-use Rattle.schedule_text.proofs.NextStep.{begins, no_step}
+use Rattle.schedule_text.proofs.NextStep.{step_cut, no_step}
 use Rattle.schedule_text.proofs.reader.next_step.Goals as goal
 
 pub returns-in_err-get-clause-step : goal.returns-in_err-get-clause-step
@@ -32,4 +32,8 @@ returns-clause-step c =
     let text = c.args.text.now in
     let from : c.in_ok-get.field-0.now ≡ drop 3 text = grind (arith, common_steps) in
     let at : position (λ b. b == 10) (drop 3 text) ≡ Some c.in_ok-end.field-0 = sym (c.in_ok-end.ensures ∙ ap (position (λ b. b == 10)) from) in
-    simp take_rest (record { line = take (3 + c.in_ok-end.field-0) text; cut = begins text c.in_ok-end.field-0 c.in_ok-step.step at (sym c.in_ok-step.ensures); is = c.in_ok-step.ensures })
+    simp take_rest (record {
+      line = take (3 + c.in_ok-end.field-0) text;
+      cut = step_cut text c.in_ok-end.field-0 c.in_ok-step.step at (sym c.in_ok-step.ensures);
+      is = c.in_ok-step.ensures;
+    })

@@ -14,7 +14,8 @@ loop-step-preserved c =
     let first = c.in-Some.ensures.step in
     let on = goes_on c.args.text.now _ xs k (omega arith) c.loop-step.invariant.read first.line _ s first.cut first.is in
     record {
-      read = ap (λ l. prepend l (steps_from (vec_len c.push.new.self + 3) left)) c.in_ok-push.ensures.items ∙ ap (λ n. prepend (xs ++ s ∷ []) (steps_from n left)) one ∙ on;
+      read = ap (λ l. prepend l (steps_from (vec_len c.push.new.self + 3) left)) c.in_ok-push.ensures.items
+          ∙ ap (λ n. prepend (xs ++ s ∷ []) (steps_from n left)) one ∙ on;
       short = omega (arith, c.in_ok-push.ensures.len, c.loop-step.invariant.short, c.in-Some.ensures.shorter);
     }
 
