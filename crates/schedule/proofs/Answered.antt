@@ -1,5 +1,6 @@
 -- A schedule that was read opens its shed, and what is printed of a text follows.
-use Rattle.std.proofs.Common.{◌≡◌, ℕ, ◌+◌, ◌*◌, ◌<◌, ◌≤◌, List, length, replicate, None, Ok, Err, vec_items, Result, Vec, sym, refl, ap, ◌∙◌, subst, mul-le-mul, arith}
+use Rattle.std.proofs.Common.{◌≡◌, ℕ, ◌+◌, ◌*◌, ◌<◌, ◌≤◌, List, length, replicate, None, Ok, Err, vec_items, Result, Vec, sym, refl, ap, ◌∙◌, subst}
+use Rattle.std.proofs.Common.{mul-le-mul, arith}
 use Rattle.std.specs.declared.alloc.Global.{Global}
 use Rattle.std.proofs.lemmas.List.{length-replicate}
 use Rattle.catalogue.specs.Catalogue.{behaviour_of, states_of, letters_of}
@@ -16,9 +17,9 @@ use Rattle.schedule_text.specs.declared.types.Fault.{Fault}
 use Rattle.catalogue.specs.declared.RuleName.{RuleName}
 use Rattle.schedule_text.specs.Reading.{Plan, read_text}
 use Rattle.listing.specs.Listing.{fault_listing_text}
-use Rattle.schedule.specs.Program.{new_shed, told, printed, ToldSafely, PrintedSafely}
+use Rattle.schedule.specs.Program.{new_shed, played_or_fault, printed, ToldSafely, PrintedSafely}
 use Rattle.schedule.specs.Running.{Runs, Unrefused, Plays}
-use Rattle.schedule.proofs.Sizes.{opens}
+use Rattle.schedule.proofs.Openings.{opens}
 
 -- a new shed's cells, pool and book are long enough for 1 to 16 values
 module _ (rule : RuleName) (values : List ℕ) (some : 0 < length values) (few : length values ≤ MAX_VALUES) where
@@ -53,13 +54,13 @@ plays p r v ran e =
 
 module _ (text out : List ℕ) where
   pub prints_plan : (p : Plan) → read_text text ≡ Ok p → Plays p out → out ≡ printed text
-  prints_plan p e h = h.is ∙ ap told (sym e)
+  prints_plan p e h = h.is ∙ ap played_or_fault (sym e)
 
   pub safe_plan : (p : Plan) → read_text text ≡ Ok p → Plays p out → PrintedSafely text out
   safe_plan p e h = subst (λ r. ToldSafely r out) (sym e) h.safe
 
   pub prints_fault : (f : Fault) → read_text text ≡ Err f → out ≡ fault_listing_text f → out ≡ printed text
-  prints_fault f e h = h ∙ ap told (sym e)
+  prints_fault f e h = h ∙ ap played_or_fault (sym e)
 
   pub safe_fault : (f : Fault) → read_text text ≡ Err f → out ≡ fault_listing_text f → PrintedSafely text out
   safe_fault f e h = subst (λ r. ToldSafely r out) (sym e) h

@@ -1,4 +1,4 @@
 pub mod Answered
 pub mod Listed
+pub mod Openings
 pub mod Played
-pub mod Sizes

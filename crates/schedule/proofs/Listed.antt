@@ -1,5 +1,6 @@
 -- A run that was carried out, and the listing that is made of it.
-use Rattle.std.proofs.Common.{◌≡◌, ℕ, zero, suc, ◌+◌, ◌-◌, ◌<◌, ◌≤◌, List, [], ◌∷◌, map, length, take, replicate, Some, None, Ok, Err, Option, sym, refl, ap, ◌∙◌, arith}
+use Rattle.std.proofs.Common.{◌≡◌, ℕ, zero, suc, ◌+◌, ◌-◌, ◌<◌, ◌≤◌, List, [], ◌∷◌, map, length, take, replicate, Some, None, Ok, Err, Option, sym}
+use Rattle.std.proofs.Common.{refl, ap, ◌∙◌, arith}
 use Rattle.std.proofs.lemmas.List.{length-append, length-map, length-replicate}
 use Rattle.lists.specs.Lists.{tabulate}
 use Rattle.rules.specs.Rule.{Behaviour, Interface}
@@ -21,9 +22,10 @@ use Rattle.shed_core.specs.Of.{world_of}
 use Rattle.conduct.specs.Conduct.{CarriedOut}
 use Rattle.listing.specs.declared.printer.RefusedStep.{RefusedStep}
 use Rattle.listing.specs.Listing.{listing_text}
-use Rattle.schedule.specs.Program.{refused_from, sight, sights, begun, over, run_listing, hull_at, ListsOneHull}
+use Rattle.schedule_text.specs.declared.reader.TheConstants.{FIRST_STEP}
+use Rattle.schedule.specs.Program.{refused_from, sights, begun, over, run_listing, hull_at, ListsOneHull}
 use Rattle.schedule.specs.Running.{Seen, Listed, Runs}
-use Rattle.schedule.proofs.Sizes.{accepted}
+use Rattle.schedule.proofs.Openings.{accepted}
 
 -- each call of a list has its place in the list of refusals
 length_refusals : {S L : Type 0} (R : Behaviour S L) (w : World S L) (steps : List Step) → length (refusals R w steps) ≡ length steps
@@ -37,11 +39,15 @@ seen_at zero f p h e = none_some e
 seen_at (suc n) f zero h e = (omega arith, e)
 seen_at (suc n) f (suc p) h e = let r = seen_at n (λ k. f (suc k)) p h e in (omega arith, r.1)
 
+same_listing : {r q : List RefusedStep} {s t : List Sight} {b c : List ℕ} → r ≡ q → s ≡ t → b ≡ c → listing_text r s b ≡ listing_text q t c
+same_listing {r} {q} {s} {t} {b} {c} e f g = ap (λ x. listing_text x s b) e ∙ ap (λ x. listing_text q x b) f ∙ ap (listing_text q t) g
+
 module _ {S L : Type 0} (R : Behaviour S L) (new : World S L) (values : List ℕ) (steps : List Step) where
-  one_hull : Guarantee R values (begun R new values steps) steps → (refused : List RefusedStep) (book out : List ℕ) → out ≡ listing_text refused (sights R (over R new values steps) (length values)) book → ListsOneHull values out
+  one_hull : Guarantee R values (begun R new values steps) steps → (refused : List RefusedStep) (book out : List ℕ) →
+      out ≡ listing_text refused (sights R (over R new values steps) (length values)) book → ListsOneHull values out
   one_hull g refused book out is =
       let n : ℕ = length values in
-      let f : ℕ → Sight = sight R (over R new values steps) in
+      let f : ℕ → Sight = sight_of R (over R new values steps) in
       record {
         refused = refused;
         stations = sights R (over R new values steps) n;
@@ -54,48 +60,50 @@ module _ {S L : Type 0} (R : Behaviour S L) (new : World S L) (values : List ℕ
 
   module _ (s : Shed) (left : Buffers S L) (blank told : List (Option Refusal))
       (ran : CarriedOut R values steps new blank s left told) where
-    looked : (f : Refusal) → (q : ℕ) × (q < length values) × (look_refusal R (world_of s left) q ≡ Some f) → ⊥
-    looked f at =
+    look_not_refused : (f : Refusal) → (q : ℕ) × (q < length values) × (look_refusal R (world_of s left) q ≡ Some f) → ⊥
+    look_not_refused f at =
         let w : World S L = over R new values steps in
         let seen : look_call R w at.0 ≡ (Ok (sight_of R w at.0), w) = ran.guaranteed.seen at.0 at.1 in
-        let fine : look_refusal R w at.0 ≡ None = (was_accepted w w (sight_of R w at.0) (look_refusal R w at.0) (sight_of R w at.0) (sym (ap (λ o. o.0) seen))).0 in
+        let fine : look_refusal R w at.0 ≡ None =
+        (was_accepted w w (sight_of R w at.0) (look_refusal R w at.0) (sight_of R w at.0) (sym (ap (λ o. o.0) seen))).0 in
         none_some (sym fine ∙ ap (λ w. look_refusal R w at.0) (sym ran.leaves) ∙ at.2)
 
-    -- a look is refused nothing, so only want of memory stops it
+    -- no look is refused, so only memory stops it
     pub not_seen : (h : Halt Refusal) → Seen R (world_of s left) (length values) (Err h) → Runs R new values steps (Err h)
-    not_seen (Refused f) at = absurd (looked f at)
+    not_seen (Refused f) at = absurd (look_not_refused f at)
     not_seen NoMemory at = tt
 
     book_is : left.book.now ≡ (over R new values steps).book
     book_is = ap (λ w. w.book) ran.leaves
 
-    counted : s.entries ≡ (over R new values steps).entries
-    counted = ap (λ w. w.entries) ran.leaves
+    entries_are : s.entries ≡ (over R new values steps).entries
+    entries_are = ap (λ w. w.entries) ran.leaves
 
     pub within : s.entries ≤ length left.book.now
     within =
         let g : Guarantee R values (begun R new values steps) steps = ran.guaranteed in
         let ts : List Triple = (tally R values start steps (refusals R (begun R new values steps) steps)).triples in
-        let whole : length (over R new values steps).book ≡ length (map entry ts) + length (replicate {A = ℕ} (length (begun R new values steps).book - length ts) 0) = ap length g.recorded ∙ length-append (map entry ts) _ in
-        omega (arith, counted, ap length book_is, whole, length-map ts entry, g.filled)
+        let free : List ℕ = replicate (length (begun R new values steps).book - length ts) 0 in
+        let sum : length (over R new values steps).book ≡ length (map entry ts) + length free = ap length g.recorded ∙ length-append (map entry ts) free in
+        omega (arith, entries_are, ap length book_is, sum, length-map ts entry, g.filled)
 
-    pub few : Interface R → length values ≤ 16
-    few face = omega (arith, face.most_few, (accepted R new values ran.opens).few)
+    pub values_few : Interface R → length values ≤ 16
+    values_few face = omega (arith, face.most_few, (accepted R new values ran.opens).few)
 
-    pub book_few : length left.book.now ≤ 65536
-    book_few = omega (arith, ap length book_is, ran.guaranteed.sized.book, length-replicate {A = ℕ} (length new.book) 0, (accepted R new values ran.opens).book)
+    pub book_short : length left.book.now ≤ 65536
+    book_short = omega (arith, ap length book_is, ran.guaranteed.sized.book, length-replicate {A = ℕ} (length new.book) 0, (accepted R new values ran.opens).book)
 
     -- where there is a cell for each step, each outcome is told
     all_told : length blank ≡ length steps → told ≡ refusals R (begun R new values steps) steps
     all_told many = ran.tells ∙ put_whole blank _ (many ∙ sym (length_refusals R (begun R new values steps) steps))
 
-    pub lists : length blank ≡ length steps → (refused : List RefusedStep) (seen : List Sight) (out : List ℕ) → refused ≡ refused_from 3 told → seen ≡ sights R (world_of s left) (length values) → out ≡ listing_text refused seen (take s.entries left.book.now) → Listed R new values steps out
+    pub listed : length blank ≡ length steps → (refused : List RefusedStep) (seen : List Sight) (out : List ℕ) → refused ≡ refused_from FIRST_STEP told →
+        seen ≡ sights R (world_of s left) (length values) → out ≡ listing_text refused seen (take s.entries left.book.now) → Listed R new values steps out
     unfolding run_listing
-    lists many refused seen out er es eo =
-        let n : ℕ = length values in
-        let is : out ≡ listing_text (refused_from 3 (refusals R (begun R new values steps) steps)) (sights R (over R new values steps) n) (take (over R new values steps).entries (over R new values steps).book) =
-        eo ∙ ap (λ r. listing_text r seen (take s.entries left.book.now)) (er ∙ ap (refused_from 3) (all_told many))
-        ∙ ap (λ l. listing_text (refused_from 3 (refusals R (begun R new values steps) steps)) l (take s.entries left.book.now)) (es ∙ ap (λ w. sights R w n) ran.leaves)
-        ∙ ap (λ k. listing_text (refused_from 3 (refusals R (begun R new values steps) steps)) (sights R (over R new values steps) n) (take k left.book.now)) counted
-        ∙ ap (λ b. listing_text (refused_from 3 (refusals R (begun R new values steps) steps)) (sights R (over R new values steps) n) (take (over R new values steps).entries b)) book_is in
+    listed many refused seen out er es eo =
+        let w : World S L = over R new values steps in
+        let outcomes : refused ≡ refused_from FIRST_STEP (refusals R (begun R new values steps) steps) = er ∙ ap (refused_from FIRST_STEP) (all_told many) in
+        let stations : seen ≡ sights R w (length values) = es ∙ ap (λ v. sights R v (length values)) ran.leaves in
+        let entries : take s.entries left.book.now ≡ take w.entries w.book = ap (λ k. take k left.book.now) entries_are ∙ ap (take w.entries) book_is in
+        let is : out ≡ run_listing R new values steps = eo ∙ same_listing outcomes stations entries in
         record { is = is; safe = one_hull ran.guaranteed _ _ out is }

@@ -7,27 +7,34 @@ use Rattle.protocol.specs.declared.refusal.Refusal.{Refusal}
 use Rattle.protocol.specs.declared.types.Sight.{Sight}
 use Rattle.protocol.specs.World.{World}
 use Rattle.listing.specs.declared.printer.RefusedStep.{RefusedStep}
-use Rattle.schedule.specs.Program.{refused_from, sight, sights}
+use Rattle.schedule_text.specs.declared.reader.TheConstants.{FIRST_STEP}
+use Rattle.protocol.specs.Calls.{sight_of}
+use Rattle.schedule.specs.Program.{refused_from, sights}
 
 -- ---- refused steps
-module _ (fs : List (Option Refusal)) (i : ℕ) (h : i < length fs) (xs whole : List RefusedStep) (inv : xs ++ refused_from (i + 3) (drop i fs) ≡ whole) where
-  next : (o : Option Refusal) → get_or fs i None ≡ o → xs ++ refused_from (i + 3) (o ∷ drop (i + 1) fs) ≡ whole
-  next o is = ap (λ x. xs ++ refused_from (i + 3) (x ∷ drop (i + 1) fs)) (sym is) ∙ ap (λ l. xs ++ l) (sym (at_drop_more (refused_from (i + 3)) fs i None h)) ∙ inv
+-- xs are the refused ones of the first i outcomes
+module _ (fs : List (Option Refusal)) (i : ℕ) (h : i < length fs) (xs whole : List RefusedStep)
+    (inv : xs ++ refused_from (i + FIRST_STEP) (drop i fs) ≡ whole) where
+  outcome_first : (o : Option Refusal) → get_or fs i None ≡ o → xs ++ refused_from (i + FIRST_STEP) (o ∷ drop (i + 1) fs) ≡ whole
+  outcome_first o is = ap (λ x. xs ++ refused_from (i + FIRST_STEP) (x ∷ drop (i + 1) fs)) (sym is)
+      ∙ ap (λ l. xs ++ l) (sym (at_drop_more (refused_from (i + FIRST_STEP)) fs i None h)) ∙ inv
 
-  line : suc (i + 3) ≡ i + 1 + 3
-  line = omega arith
+  line_after : suc (i + FIRST_STEP) ≡ i + 1 + FIRST_STEP
+  line_after = omega arith
 
-  pub refused_not : get_or fs i None ≡ None → xs ++ refused_from (i + 1 + 3) (drop (i + 1) fs) ≡ whole
-  refused_not is = ap (λ k. xs ++ refused_from k (drop (i + 1) fs)) (sym line) ∙ next None is
+  pub refused_not : get_or fs i None ≡ None → xs ++ refused_from (i + 1 + FIRST_STEP) (drop (i + 1) fs) ≡ whole
+  refused_not is = ap (λ k. xs ++ refused_from k (drop (i + 1) fs)) (sym line_after) ∙ outcome_first None is
 
-  pub refused_more : (f : Refusal) (ys : List RefusedStep) → get_or fs i None ≡ Some f → ys ≡ xs ++ record { line = i + 3; refusal = f } ∷ [] → ys ++ refused_from (i + 1 + 3) (drop (i + 1) fs) ≡ whole
+  pub refused_more : (f : Refusal) (ys : List RefusedStep) → get_or fs i None ≡ Some f → ys ≡ xs ++ record { line = i + FIRST_STEP; refusal = f } ∷ [] →
+      ys ++ refused_from (i + 1 + FIRST_STEP) (drop (i + 1) fs) ≡ whole
   refused_more f ys is e =
-      let r : RefusedStep = record { line = i + 3; refusal = f } in
-      ap (λ l. l ++ refused_from (i + 1 + 3) (drop (i + 1) fs)) e ∙ append_assoc xs (r ∷ []) (refused_from (i + 1 + 3) (drop (i + 1) fs)) ∙ ap (λ k. xs ++ r ∷ refused_from k (drop (i + 1) fs)) (sym line) ∙ next (Some f) is
+      let r : RefusedStep = record { line = i + FIRST_STEP; refusal = f } in
+      ap (λ l. l ++ refused_from (i + 1 + FIRST_STEP) (drop (i + 1) fs)) e ∙ append_assoc xs (r ∷ []) (refused_from (i + 1 + FIRST_STEP) (drop (i + 1) fs))
+      ∙ ap (λ k. xs ++ r ∷ refused_from k (drop (i + 1) fs)) (sym line_after) ∙ outcome_first (Some f) is
 
 -- ---- sights
 pub one_more_sight :
     {S L : Type 0} (R : Behaviour S L) (w : World S L) (p : ℕ) (before after : List Sight) (s : Sight) →
-    before ≡ sights R w p → s ≡ sight R w p → after ≡ before ++ s ∷ [] → after ≡ sights R w (p + 1)
+    before ≡ sights R w p → s ≡ sight_of R w p → after ≡ before ++ s ∷ [] → after ≡ sights R w (p + 1)
 one_more_sight R w p before after s e f h =
-    h ∙ ap (λ l. l ++ s ∷ []) e ∙ ap (λ x. sights R w p ++ x ∷ []) f ∙ sym (tabulate_more p (sight R w)) ∙ ap (sights R w) (sym (add-one p))
+    h ∙ ap (λ l. l ++ s ∷ []) e ∙ ap (λ x. sights R w p ++ x ∷ []) f ∙ sym (tabulate_more p (sight_of R w)) ∙ ap (sights R w) (sym (add-one p))

@@ -7,8 +7,8 @@ use Rattle.catalogue.specs.Catalogue.{behaviour_of, states_of, letters_of}
 use Rattle.protocol.specs.declared.refusal.Refusal.{Refusal}
 use Rattle.protocol.specs.declared.types.Sight.{Sight}
 use Rattle.protocol.specs.declared.types.Step.{Step}
-use Rattle.protocol.specs.World.{World, station, shut}
-use Rattle.protocol.specs.Calls.{opened, after, refusals, state_of}
+use Rattle.protocol.specs.World.{World, shut}
+use Rattle.protocol.specs.Calls.{opened, after, refusals, sight_of}
 use Rattle.listing.specs.declared.printer.RefusedStep.{RefusedStep}
 use Rattle.schedule_text.specs.declared.types.Fault.{Fault}
 use Rattle.schedule.specs.declared.answer.TheConstants.{POOL_WORDS, BOOK_WORDS}
@@ -24,14 +24,11 @@ refused_from line (None ∷ fs) = refused_from (suc line) fs
 refused_from line (Some f ∷ fs) = record { line = line; refusal = f } ∷ refused_from (suc line) fs
 
 module _ {S L : Type 0} (R : Behaviour S L) where
-  -- what is seen of station p, and of the first n stations
-  abbrev pub sight : World S L → ℕ → Sight
-  sight w p = record { stand = (station w p).stand; round = (station w p).round; hull = R.hull (state_of R w p) }
-
+  -- what is seen of the first n stations
   abbrev pub sights : World S L → ℕ → List Sight
-  sights w n = tabulate n (sight w)
+  sights w n = tabulate n (sight_of R w)
 
-  -- a new shed opens with the values and takes the steps, of which the first stands on line 3
+  -- a new shed opens with the values and takes the steps
   module _ (new : World S L) (values : List ℕ) (steps : List Step) where
     abbrev pub begun : World S L
     begun = opened R new values
@@ -40,7 +37,8 @@ module _ {S L : Type 0} (R : Behaviour S L) where
     over = after R begun steps
 
     unfoldable pub run_listing : List ℕ
-    run_listing = listing_text (refused_from FIRST_STEP (refusals R begun steps)) (sights over (length values)) (take over.entries over.book)
+    run_listing =
+        listing_text (refused_from FIRST_STEP (refusals R begun steps)) (sights over (length values)) (take over.entries over.book)
 
 -- ---- the program
 -- a new shed with these cells, and a pool and a book of zeros
@@ -51,13 +49,13 @@ new_shed states letters = shut states letters (replicate POOL_WORDS 0) (replicat
 abbrev pub played : Plan → List ℕ
 played p = run_listing (behaviour_of p.rule) (new_shed (states_of p.rule) (letters_of p.rule)) p.values p.steps
 
--- a faulty text has its fault printed, and any other the listing of its plan
-abbrev pub told : Result Plan Fault → List ℕ
-told (Err f) = fault_listing_text f
-told (Ok p) = played p
+-- of a text with a fault that is printed, and of any other the listing of its plan
+abbrev pub played_or_fault : Result Plan Fault → List ℕ
+played_or_fault (Err f) = fault_listing_text f
+played_or_fault (Ok p) = played p
 
 abbrev pub printed : List ℕ → List ℕ
-printed text = told (read_text text)
+printed text = played_or_fault (read_text text)
 
 -- ---- what is printed inherits the guarantee
 -- the hull that a station of a list shows, or none

@@ -16,8 +16,10 @@ returns-in-Ok c =
     let p = plan c.in-Ok.schedule in
     let read = c.in-Ok.ensures.reads in
     record {
-      prints = IfOk-weaker c.play.result (λ v. Plays p (vec_items v)) (λ v. vec_items v ≡ printed text) (λ v. prints_plan text (vec_items v) p read) c.play.ensures;
-      safely = IfOk-weaker c.play.result (λ v. Plays p (vec_items v)) (λ v. PrintedSafely text (vec_items v)) (λ v. safe_plan text (vec_items v) p read) c.play.ensures;
+      prints = IfOk-weaker c.play.result (λ v. Plays p (vec_items v)) (λ v. vec_items v ≡ printed text)
+          (λ v. prints_plan text (vec_items v) p read) c.play.ensures;
+      safely = IfOk-weaker c.play.result (λ v. Plays p (vec_items v)) (λ v. PrintedSafely text (vec_items v))
+          (λ v. safe_plan text (vec_items v) p read) c.play.ensures;
     }
 
 pub returns-in-Err-Refused : goal.returns-in-Err-Refused
@@ -26,6 +28,8 @@ returns-in-Err-Refused c =
     let f = c.in-Err-Refused.fault in
     let read = subst (λ e. Reads text (Err e)) c.in-Err-Refused.field-0-is c.in-Err-Refused.ensures.reads in
     record {
-      prints = IfOk-weaker c.fault_listing.result (λ v. vec_items v ≡ fault_listing_text f) (λ v. vec_items v ≡ printed text) (λ v. prints_fault text (vec_items v) f read) c.fault_listing.ensures;
-      safely = IfOk-weaker c.fault_listing.result (λ v. vec_items v ≡ fault_listing_text f) (λ v. PrintedSafely text (vec_items v)) (λ v. safe_fault text (vec_items v) f read) c.fault_listing.ensures;
+      prints = IfOk-weaker c.fault_listing.result (λ v. vec_items v ≡ fault_listing_text f) (λ v. vec_items v ≡ printed text)
+          (λ v. prints_fault text (vec_items v) f read) c.fault_listing.ensures;
+      safely = IfOk-weaker c.fault_listing.result (λ v. vec_items v ≡ fault_listing_text f) (λ v. PrintedSafely text (vec_items v))
+          (λ v. safe_fault text (vec_items v) f read) c.fault_listing.ensures;
     }

@@ -2,11 +2,13 @@ use Rattle.std.proofs.Common.{◌≡◌, length, take, vec_items, ap, ◌∙◌,
 use Rattle.std.proofs.lemmas.List.{length-take, with_items_is}
 use Rattle.std.proofs.lemmas.Result.{err_from_is_err_and}
 use Rattle.lists.proofs.Tables.{length_tabulate}
+use Rattle.protocol.specs.Calls.{sight_of}
 use Rattle.protocol.specs.World.{shut}
 use Rattle.shed_core.specs.Of.{world_of}
-use Rattle.schedule.specs.Program.{refused_from, sight}
+use Rattle.schedule_text.specs.declared.reader.TheConstants.{FIRST_STEP}
+use Rattle.schedule.specs.Program.{refused_from}
 use Rattle.listing.specs.Listing.{listing_text}
-use Rattle.schedule.proofs.Listed.{not_seen, few, book_few, lists}
+use Rattle.schedule.proofs.Listed.{not_seen, values_few, book_short, listed}
 use Rattle.schedule.proofs.running.run.Goals as goal
 
 pub returns-in_err-stations : goal.returns-in_err-stations
@@ -27,10 +29,14 @@ invariant_of-report g c =
     let shed = c.in_ok-shed.shed in
     let told = c.conduct.new.outcomes in
     let ran = c.in_ok-shed.ensures.conducted in
-    let seen = ap length c.in_ok-stations.ensures ∙ length_tabulate (length a.values.now) (sight R (world_of shed left)) in
+    let seen = ap length c.in_ok-stations.ensures ∙ length_tabulate (length a.values.now) (sight_of R (world_of shed left)) in
     record {
-      few = omega (arith, seen, few R new a.values.now a.steps.now shed left c.as_mut_slice.result.now told ran (g.met.R.Rule.interface rule));
-      short = omega (arith, book_few R new a.values.now a.steps.now shed left c.as_mut_slice.result.now told ran, length-take c.entries-entries.result left.book.now);
+      few = omega (arith, seen, values_few R new a.values.now a.steps.now shed left c.as_mut_slice.result.now told ran (g.met.R.Rule.interface rule));
+      short = omega (
+        arith,
+        book_short R new a.values.now a.steps.now shed left c.as_mut_slice.result.now told ran,
+        length-take c.entries-entries.result left.book.now,
+      );
     }
 
 pub returns : goal.returns
@@ -42,8 +48,9 @@ returns g c =
     let whole : length c.conduct.new.outcomes ≡ made.len = c.conduct.auto.outcomes ∙ c.as_mut_slice.ensures.len in
     let refused = vec_items c.in_ok-refused.refused in
     let stations = vec_items c.in_ok-stations.stations in
-    lists R (shut a.states.now a.letters.now a.pool.now a.book.now) a.values.now a.steps.now c.in_ok-shed.shed left
-    c.as_mut_slice.result.now c.conduct.new.outcomes c.in_ok-shed.ensures.conducted (c.as_mut_slice.ensures.len ∙ c.in_ok-outcomes.ensures.len) refused stations _
-    (c.in_ok-refused.ensures ∙ ap (refused_from 3) (c.as_slice.ensures.value ∙ with_items_is made c.conduct.new.outcomes whole))
+    listed R (shut a.states.now a.letters.now a.pool.now a.book.now) a.values.now a.steps.now c.in_ok-shed.shed left
+    c.as_mut_slice.result.now c.conduct.new.outcomes c.in_ok-shed.ensures.conducted
+    (c.as_mut_slice.ensures.len ∙ c.in_ok-outcomes.ensures.len) refused stations _
+    (c.in_ok-refused.ensures ∙ ap (refused_from FIRST_STEP) (c.as_slice.ensures.value ∙ with_items_is made c.conduct.new.outcomes whole))
     c.in_ok-stations.ensures
     (c.in_ok-print.ensures ∙ ap (λ k. listing_text refused stations (take k left.book.now)) c.entries-entries.ensures)

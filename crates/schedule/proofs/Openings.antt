@@ -16,5 +16,6 @@ module _ {S L : Type 0} (R : Behaviour S L) where
       record { few = grind (arith, nat_tests, fine); book = grind (arith, nat_tests, fine) }
 
   -- an opening that is refused nothing
-  pub opens : (new : World S L) (values : List ℕ) → new.n ≡ 0 → 0 < length values → length values ≤ R.most → 0 < length new.pool → length new.pool ≤ 4096 → length new.book ≤ 65536 → length values ≤ length new.states → letter_cells (length values) ≤ length new.letters → open_refusal R new values ≡ None
+  pub opens : (new : World S L) (values : List ℕ) → new.n ≡ 0 → 0 < length values → length values ≤ R.most → 0 < length new.pool → length new.pool ≤ 4096 →
+      length new.book ≤ 65536 → length values ≤ length new.states → letter_cells (length values) ≤ length new.letters → open_refusal R new values ≡ None
   opens new values shut some few pool pool-few book states letters = grind (arith, nat_tests, shut, some, few, pool, pool-few, book, states, letters)
