@@ -15,6 +15,7 @@ use frames::frame::pack_frame;
 use last::Last;
 use protocol::refusal::Refusal;
 use protocol::types::Step;
+use protocol::{MAX_BOOK, MAX_POOL};
 use rules::{LAST_ROUND, Rule};
 use schedule_text::reader::{FIRST_STEP, MAX_BYTES, MAX_VALUES, read_schedule};
 use schedule_text::types::{ReadError, Schedule};
@@ -165,10 +166,18 @@ pub fn read_two_steps(heap: Global) -> Result<Schedule, ReadError>
     read_schedule(heap, b"rule third\nvalues 9 7\ns 0\nd 12\n")
 }
 
-/// The last round, and of a schedule the most bytes, the most opening values and the line of the first step.
-pub fn bounds() -> [usize; 4]
-    ensures bounds { result ≡ 4095 ∷ 65536 ∷ 16 ∷ 3 ∷ [] }
+/// The last round, the most words of a pool and of a book, and of a schedule the most bytes, the most opening values and the
+/// line of the first step.
+pub fn bounds() -> [usize; 6]
+    ensures bounds { result ≡ 4095 ∷ 4096 ∷ 65536 ∷ 65536 ∷ 16 ∷ 3 ∷ [] }
     ensures words { ProgramWords }
 {
-    [usize::from(LAST_ROUND), MAX_BYTES, MAX_VALUES, FIRST_STEP]
+    [
+        usize::from(LAST_ROUND),
+        MAX_POOL,
+        MAX_BOOK,
+        MAX_BYTES,
+        MAX_VALUES,
+        FIRST_STEP,
+    ]
 }
