@@ -1,7 +1,12 @@
 #!/usr/bin/env python3
-"""Checks what the pages (README.md, docs/, examples/README.md, peer/README.md) say of the repository: links and anchors, paths, names
-beside a link to a source file, names of the code anywhere, counted numbers, the examples that can be followed by hand, and that
-docs/REFERENCE.md is fresh. Prints each thing that is not so, and ends with status 1 if there is one.
+"""Checks what the pages (README.md, docs/, examples/README.md, peer/README.md) say of the repository:
+
+- links and anchors, paths, names beside a link to a source file, and names of the code anywhere;
+- the parts of the guarantee, the map of the crates, the edits that are named;
+- constants, the numbers of refusals and faults, counted lines and edits, and that no public function has a precondition;
+- the examples that can be followed by hand, the program that the first page shows, and that docs/REFERENCE.md is fresh.
+
+Prints each thing that is not so, and ends with status 1 if there is one.
 
 usage: python3 tools/check_docs.py              at the top of the repository
        python3 tools/check_docs.py --write      writes the counted numbers into docs/MAINTAINING.md first, and docs/REFERENCE.md
@@ -17,7 +22,8 @@ import sys
 PAGES = [pathlib.Path("README.md"), *sorted(pathlib.Path("docs").glob("*.md")), pathlib.Path("examples/README.md"), pathlib.Path("peer/README.md")]
 # Pages on what was: their names are those of that time.
 HISTORY = {"PORT.md", "DESIGN-PASS.md"}
-MADE = ("crates/my_program", "crates/shed/out", "crates/peer_bridge/out", "target/", "../crates/shed/out", "../crates/peer_bridge/out")
+# What a build, or whoever follows a page, makes.
+MADE = ("crates/my_program", "crates/shed/out", "crates/peer_bridge/out", "target/")
 # Names of the kit, of Rust and of the pages' own examples that stand in no file of ours.
 ELSEWHERE = set("dyn split_inclusive iter_mut from_utf8 TryFrom FromStr my_program".split())
 
@@ -82,10 +88,10 @@ def words_of(path):
 
 
 def code_words():
-    """Every word of the code, the definitions, the proofs, the scripts and the names of files."""
+    """Every word of the code, the definitions and the proofs, and of the names of files."""
     found = set()
     for name in tracked():
-        if not name.endswith(".md") and pathlib.Path(name).exists():
+        if not name.endswith(".md") and not name.startswith("tools/") and pathlib.Path(name).exists():
             found |= words_of(pathlib.Path(name))
         found.update(re.findall(r"[^\W\d]\w*", name))
     return found
@@ -110,7 +116,7 @@ def source(page, target):
 def check_names(page, known):
     text = page.read_text("utf-8")
     shown = {name for _, body in fenced(text) for name in re.findall(r"[^\W\d]\w*", body)}
-    made = tuple(MADE) + tuple("/".join(name.split("/")[:2]) for name in guide_files(text))
+    made = MADE + tuple("/".join(name.split("/")[:2]) for name in guide_files(text))
     known = known | shown
     for number, line in outside_code(text):
         if line.startswith("    "):
@@ -166,6 +172,35 @@ def counted():
         rows.append(f"| `{name}` | " + " | ".join(f"{n:,}" if n else "" for n in row) + " |")
     rows.append(f"| {len(names)} crates | " + " | ".join(f"{n:,}" for n in sums) + " |")
     return "\n".join(rows)
+
+
+# Constants of the code, and the page that tells each.
+CONSTANTS = {
+    "LAST_ROUND": "docs/RULES.md",
+    "MAX_POOL": "docs/CALLS.md",
+    "MAX_BOOK": "docs/CALLS.md",
+    "MAX_BYTES": "docs/SCHEDULE.md",
+    "MAX_VALUES": "docs/SCHEDULE.md",
+    "POOL_WORDS": "docs/SCHEDULE.md",
+    "BOOK_WORDS": "docs/SCHEDULE.md",
+}
+
+
+def check_numbers():
+    """Constants and the numbers of refusals and faults are told as the code has them."""
+    code = "\n".join(path.read_text("utf-8") for path in sorted(pathlib.Path("crates").glob("*/src/**/*.rt")))
+    for name, page in CONSTANTS.items():
+        value = re.search(rf"const {name}: \w+ = ([\d_]+);", code)
+        if not value or not re.search(rf"(?<![\d,]){int(value.group(1)):,}(?![\d,]*\d)", pathlib.Path(page).read_text("utf-8")):
+            wrong(page, 0, f"{name} is not told")
+    table = dict(re.findall(r"^    (\w+) = (\d+),", pathlib.Path("crates/refusal_numbers/src/lib.rt").read_text("utf-8"), re.M))
+    told = {name: number for number, name in re.findall(r"^\| (\d+) \| `Refusal::(\w+)` \|", pathlib.Path("docs/CALLS.md").read_text("utf-8"), re.M)}
+    calls = {name for name in table if int(table[name]) < int(table["TooLong"])}
+    if told != {name: table[name] for name in calls}:
+        wrong("docs/CALLS.md", 0, "the refusals are not those of the table of numbers")
+    faults = re.findall(r"^\| (\d+) \| [^`|]+ \| [^|]+ \|$", pathlib.Path("docs/SCHEDULE.md").read_text("utf-8").partition("## Faults")[2].partition("Of 17 to 20")[0], re.M)
+    if set(faults) != set(table.values()) - set(told.values()):
+        wrong("docs/SCHEDULE.md", 0, "the faults are not those of the table of numbers")
 
 
 COUNTS = re.compile(r"(<!-- counted -->\n).*?(\n<!-- /counted -->)", re.S)
@@ -327,6 +362,7 @@ def main():
     check_shown()
     check_house()
     check_guarantee()
+    check_numbers()
     if "--program" in args:
         check_program(args[args.index("--program") + 1])
     print("\n".join(said + [f"{len(PAGES)} pages, {len(said)} things that are not so"]))
