@@ -151,9 +151,9 @@ fn recounts(rng: &mut Rng) -> Input {
     Input { rule: rule(rng), values: values(rng, n), requests, pool: vec![7; 3], book }
 }
 
-/// A frame's word, mostly of n stations and of about the round.
-fn packed(rng: &mut Rng, rule: u8, n: usize, sender: usize, receiver: usize, round: u16) -> u64 {
-    let (value, stamp) = (value(rng), *rng.pick(&STAMPS));
+/// A frame's word, seldom spoiled.
+fn packed(rng: &mut Rng, rule: u8, sender: usize, receiver: usize, round: u16, value: u16) -> u64 {
+    let stamp = *rng.pick(&STAMPS);
     let (sender, receiver, round) = (sender % 16, receiver % 16, round % 4096);
     let word = match rule {
         0 => pack_frame(&Third, &Frame { sender, receiver, round, letter: ThirdLetter { value } }),
@@ -165,7 +165,7 @@ fn packed(rng: &mut Rng, rule: u8, n: usize, sender: usize, receiver: usize, rou
         1 => word | (rng.below(2048) as u64) << 17,
         2 => rng.word(),
         3 => 0,
-        4 => word | (station(rng, n) as u64 % 16) << 60,
+        4 => word | rng.word() << 60,
         _ => word,
     }
 }
@@ -223,35 +223,44 @@ impl<R: Rule> Player<R> {
 
     /// A word is written into the pool; seldom where it is read later, but often enough.
     fn write(&mut self, rng: &mut Rng) {
-        let (sender, receiver, round) = (station(rng, self.n), station(rng, self.n), round(rng));
+        let (sender, receiver, round, value) = (station(rng, self.n), station(rng, self.n), round(rng), value(rng));
         let spoiled = rng.percent(30) as u64;
-        let word = packed(rng, self.rule, self.n, sender, receiver, round) | spoiled;
+        let word = packed(rng, self.rule, sender, receiver, round, value) | spoiled;
         let place = rng.below(self.bench.shed.c + 1);
         self.lent(self.lengths, WRITE, place, word);
     }
 
-    /// Letters that nobody wrote reach a station that listens, which then turns: any mailbox, so any state.
-    fn forge(&mut self, rng: &mut Rng) {
-        for p in self.stands(Stand::Fresh) {
-            self.call(rng, SEND, p);
-        }
-        let listening = self.stands(Stand::Listening);
-        if listening.is_empty() || self.bench.shed.c == 0 {
-            return;
-        }
-        let p = *rng.pick(&listening);
-        let round = self.bench.shed.records[p].round;
+    /// Letters that nobody wrote reach a station, many of them alike, and it turns: so it meets any mailbox, in any state.
+    fn forge(&mut self, rng: &mut Rng, p: usize) {
+        self.call(rng, SEND, p);
+        let alike = value(rng);
         for q in 0..self.n {
-            if rng.percent(75) && self.bench.shed.c > 0 {
-                let round = if rng.percent(95) { round } else { round + rng.below(3) as u16 };
-                let word = packed(rng, self.rule, self.n, q, p, round);
-                self.lent(self.lengths, WRITE, 0, word);
-                if self.call(rng, DELIVER, 0).refusal != 0 {
-                    self.call(rng, DROP, 0);
-                }
+            if rng.percent(25) || self.bench.shed.c == 0 {
+                continue;
+            }
+            if self.bench.shed.c == 1 {
+                self.call(rng, REPEAT, 0);
+            }
+            let round = self.bench.shed.records[p].round + if rng.percent(3) { rng.below(3) as u16 } else { 0 };
+            let value = if rng.percent(70) { alike } else { value(rng) };
+            let word = packed(rng, self.rule, q, p, round, value);
+            self.lent(self.lengths, WRITE, 0, word);
+            if self.call(rng, DELIVER, 0).refusal != 0 && self.bench.shed.c > 1 {
+                self.call(rng, DROP, 0);
             }
         }
         self.call(rng, TURN, p);
+    }
+
+    /// The same for many rounds, with one station that nothing from the others reaches.
+    fn alone(&mut self, rng: &mut Rng, turns: usize) {
+        for p in 0..self.n {
+            self.call(rng, SEND, p);
+        }
+        let p = rng.below(self.n);
+        for _ in 0..turns {
+            self.forge(rng, p);
+        }
     }
 
     fn stands(&self, stand: Stand) -> Vec<usize> {
@@ -308,7 +317,10 @@ impl<R: Rule> Player<R> {
             6 => (CRASH, rng.below(n)),
             7 => return self.write(rng),
             8 if rng.percent(10) => (OPEN, n),
-            9 => return self.forge(rng),
+            9 => {
+                let p = rng.below(n);
+                return self.forge(rng, p);
+            }
             _ => (rng.from(1, 7) as u8, station(rng, n)),
         };
         self.call(rng, kind, k);
@@ -437,10 +449,13 @@ fn play<R: Rule>(rng: &mut Rng, number: u8, by: R) -> Input {
     } else {
         let weights = std::array::from_fn(|i| [6, 10, 10, 2, 2, 6, 0, 1, 1, 2][i] * *rng.pick(&[1, 1, 1, 2, 4, 0]) + [2, 4, 0, 0, 0, 2, 0, 1, 1, 0][i]);
         let turns = *rng.pick(&[5, 20, 60, 120]);
-        let style = rng.below(3);
+        let style = rng.below(4);
         let limit = turns * if n > 4 { 6 } else { 2 } * (1 + player.whole);
-        if style != 0 {
+        if style == 1 || style == 2 {
             player.lively(rng, limit);
+        }
+        if style == 3 {
+            player.alone(rng, turns);
         }
         if style != 1 {
             for _ in 0..turns {
