@@ -1,30 +1,31 @@
-// The rules that a schedule can name: of each its name, the name's text, the rule itself, and what fills the cells of a new shed.
+//! The rules that a schedule can name: of each its name, the name's text, the rule itself, and a letter of its own.
 #![tactic(auto)]
 
 ghost use Rattle.std.specs.Prelude.{◌≡◌, List};
 ghost use Rattle.std.specs.Borrow.{Array};
 ghost use Rattle.std.specs.Mem.{FitsInMemory};
 ghost use Rattle.rules.specs.Rule.{Behaviour};
-ghost use Rattle.catalogue.specs.Names.{name_in};
-ghost use Rattle.catalogue.specs.Catalogue.{behaviour_of, states_of, letters_of, new_states, new_letters};
+ghost use Rattle.catalogue.specs.declared.TheConstants.{STATIONS, LETTERS};
+ghost use Rattle.catalogue.specs.Names.{name_in, NamesReadBack};
+ghost use Rattle.catalogue.specs.Catalogue.{behaviour_of, states_of, letters_of, new_states, new_letters, ForAllStations};
 
 use last::Last;
 use rules::Rule;
 use std::str::from_utf8;
 use third::Third;
 
-// A cell for the state of each of 16 stations.
-const STATES: usize = 16;
+/// The stations of a new shed, as many as a rule can have.
+pub const STATIONS: usize = 16;
 
-// A row of 17 letters for each of them.
-const LETTERS: usize = STATES * (STATES + 1);
+// The cells for their letters: for each station a row with a letter of each, and one that it holds.
+const LETTERS: usize = STATIONS * (STATIONS + 1);
 
-// The name of a rule.
+/// The name of a rule.
 #[derive(Clone, Copy, Debug, PartialEq, Eq)]
 pub enum RuleName {
-    // OneThirdRule.
+    /// OneThirdRule.
     Third,
-    // LastVoting.
+    /// LastVoting.
     Last,
 }
 
@@ -39,21 +40,24 @@ fn named(text: &str) -> Option<RuleName>
     }
 }
 
-// The rule that the bytes name, or none. Bytes that are no text name no rule.
+/// The rule that the bytes name, whole, or none. Bytes that are no text name no rule.
+#[tactic(auto, using(crate::proofs::Names::names_read_back))]
 pub fn read_name(bytes: &[u8]) -> Option<RuleName>
-    ensures { result ≡ name_in bytes.now }
+    ensures reads { result ≡ name_in bytes.now }
+    ensures laws { NamesReadBack }
 {
     named(from_utf8(bytes).ok()?)
 }
 
-// What is done with a rule, whichever it is.
+/// What is done with a rule, whichever it is.
 pub trait WithRule {
+    /// What comes of it.
     type Answer;
 
-    // What the answer says of the rule's behaviour and of the cells that were lent.
+    // What the answer says of the rule's behaviour, and of the cells as they were lent.
     ghost promises: { Self → {S L : Type 0} → Behaviour S L → List S → List L → Self.Answer → Type 0 };
 
-    // Does it with the rule, and with the cells of a new shed for 16 stations.
+    /// Does it with the rule, and with the cells of a new shed: each holds the rule's first state, or a letter of its own.
     fn with<R: Rule>(
         self,
         rule: &R,
@@ -63,21 +67,23 @@ pub trait WithRule {
         ensures { promises self (R.Rule.behaviour rule.now) states.old letters.old result };
 }
 
-// With this letter in every cell for letters, and the rule's first state in every cell for states.
+// With the rule, its first state in every cell for states, and this letter in every cell for letters.
 fn with_cells<R: Rule, V: WithRule>(visitor: V, rule: &R, letter: R::Letter) -> V::Answer
-    requires states { FitsInMemory (Array R.State.row 16) }
-    requires letters { FitsInMemory (Array R.Letter.row 272) }
+    requires states { FitsInMemory (Array R.State.row STATIONS) }
+    requires letters { FitsInMemory (Array R.Letter.row LETTERS) }
     ensures { V.promises visitor (R.Rule.behaviour rule.now)
         (new_states (R.Rule.behaviour rule.now)) (new_letters letter) result }
 {
-    let mut states = [rule.first(1, 0, 0); STATES];
+    let mut states = [rule.first(1, 0, 0); STATIONS];
     let mut letters = [letter; LETTERS];
     visitor.with(rule, &mut states, &mut letters)
 }
 
-// With the rule of that name.
+/// Does what the visitor does, with the rule of that name.
+#[tactic(auto, using(crate::proofs::Catalogued::for_all_stations))]
 pub fn with_rule<V: WithRule>(name: RuleName, visitor: V) -> V::Answer
-    ensures { V.promises visitor (behaviour_of name) (states_of name) (letters_of name) result }
+    ensures does { V.promises visitor (behaviour_of name) (states_of name) (letters_of name) result }
+    ensures laws { ForAllStations }
 {
     match name {
         RuleName::Third => with_cells(visitor, &Third, third::Letter { value: 0 }),

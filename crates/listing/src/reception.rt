@@ -1,5 +1,6 @@
 // How well a station was reached, counted from the book.
 ghost use Rattle.std.specs.Prelude.{◌≡◌, ◌*◌, ◌<◌, ◌≤◌, length};
+ghost use Rattle.protocol.specs.declared.TheConstants.{MAX_BOOK};
 ghost use Rattle.listing.specs.Reception.{letters_in, turns_in_book, letters_heard, rounded, reception_of};
 
 use frames::book::read_entry;
@@ -47,7 +48,7 @@ fn quotient(part: usize, whole: usize) -> usize
 
 // What part of the letters due in its turns the station heard, of n stations: in hundredths, and 0 without turns.
 pub(crate) fn reception(n: usize, station: usize, book: &[u64]) -> usize
-    requires { (0 < n) × ((n ≤ 16) × (length book.now ≤ 65536)) }
+    requires { (0 < n) × ((n ≤ 16) × (length book.now ≤ MAX_BOOK)) }
     ensures is { result ≡ reception_of n station book.now }
     ensures few { result ≤ 1600 }
 {

@@ -1,10 +1,12 @@
 -- A schedule that was read opens its shed, and what is printed of a text follows.
-use Rattle.std.proofs.Common.{◌≡◌, ℕ, ◌+◌, ◌*◌, ◌<◌, ◌≤◌, List, length, replicate, None, Ok, Err, vec_items, Result, Vec, sym, refl, ap, ◌∙◌, subst}
+use Rattle.std.proofs.Common.{◌≡◌, ℕ, ◌<◌, ◌≤◌, List, length, replicate, None, Ok, Err, vec_items, Result, Vec, sym, refl, ap, ◌∙◌, subst}
 use Rattle.std.proofs.Common.{mul-le-mul, arith}
 use Rattle.std.specs.declared.alloc.Global.{Global}
 use Rattle.std.proofs.lemmas.List.{length-replicate}
+use Rattle.protocol.specs.Rows.{row_cells, letter_cells}
+use Rattle.catalogue.specs.declared.TheConstants.{STATIONS}
 use Rattle.catalogue.specs.Catalogue.{behaviour_of, states_of, letters_of}
-use Rattle.catalogue.proofs.Catalogued.{for_sixteen}
+use Rattle.catalogue.proofs.Catalogued.{for_all_stations}
 use Rattle.schedule_text.specs.declared.reader.TheConstants.{MAX_VALUES}
 use Rattle.schedule.specs.declared.answer.TheConstants.{POOL_WORDS, BOOK_WORDS}
 use Rattle.lists.proofs.Options.{none_some}
@@ -27,13 +29,13 @@ module _ (rule : RuleName) (values : List ℕ) (some : 0 < length values) (few :
   unfolding new_shed
   program_opens =
       let R = behaviour_of rule in
-      let most : R.most ≡ 16 = for_sixteen.most rule in
-      let states : length (states_of rule) ≡ 16 = for_sixteen.states rule in
-      let letters : length (letters_of rule) ≡ 272 = for_sixteen.letters rule in
+      let most : R.most ≡ STATIONS = for_all_stations.most rule in
+      let states : length (states_of rule) ≡ STATIONS = for_all_stations.states rule in
+      let letters : length (letters_of rule) ≡ letter_cells STATIONS = for_all_stations.letters rule in
       let pool : length (replicate {A = ℕ} POOL_WORDS 0) ≡ POOL_WORDS = length-replicate {A = ℕ} POOL_WORDS 0 in
       let book : length (replicate {A = ℕ} BOOK_WORDS 0) ≡ BOOK_WORDS = length-replicate {A = ℕ} BOOK_WORDS 0 in
-      let more : length values + 1 ≤ 17 = omega arith in
-      let cells : length values * (length values + 1) ≤ 16 * 17 = mul-le-mul few more in
+      let row : row_cells (length values) ≤ row_cells STATIONS = omega arith in
+      let cells : letter_cells (length values) ≤ letter_cells STATIONS = mul-le-mul few row in
       opens R (new_shed (states_of rule) (letters_of rule)) values refl some (rw most few)
       (omega arith) (omega arith) (omega arith) (omega arith) (omega arith)
 

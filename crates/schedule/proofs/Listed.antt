@@ -6,6 +6,7 @@ use Rattle.lists.specs.Lists.{tabulate}
 use Rattle.rules.specs.Rule.{Behaviour, Interface}
 use Rattle.lists.proofs.Options.{none_some}
 use Rattle.lists.proofs.Tables.{length_tabulate, put_whole}
+use Rattle.protocol.specs.declared.TheConstants.{MAX_BOOK}
 use Rattle.protocol.specs.declared.refusal.Refusal.{Refusal}
 use Rattle.protocol.specs.declared.types.Sight.{Sight}
 use Rattle.protocol.specs.declared.types.Step.{Step}
@@ -90,7 +91,7 @@ module _ {S L : Type 0} (R : Behaviour S L) (new : World S L) (values : List ℕ
     pub values_few : Interface R → length values ≤ 16
     values_few face = omega (arith, face.most_few, (accepted R new values ran.opens).few)
 
-    pub book_short : length left.book.now ≤ 65536
+    pub book_short : length left.book.now ≤ MAX_BOOK
     book_short = omega (arith, ap length book_is, ran.guaranteed.sized.book, length-replicate {A = ℕ} (length new.book) 0, (accepted R new values ran.opens).book)
 
     -- where there is a cell for each step, each outcome is told

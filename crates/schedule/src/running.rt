@@ -2,6 +2,7 @@
 ghost use Rattle.std.specs.Prelude.{◌≡◌, IfOk};
 ghost use Rattle.protocol.specs.World.{shut};
 ghost use Rattle.shed_core.specs.Of.{world_of};
+ghost use Rattle.schedule_text.specs.declared.reader.TheConstants.{FIRST_STEP};
 ghost use Rattle.schedule.specs.Program.{refused_from};
 ghost use Rattle.schedule.specs.Running.{Seen, Runs};
 
@@ -16,10 +17,10 @@ use shed_core::buffers::Buffers;
 use shed_core::shed::Shed;
 use std::alloc::{AllocError, Global};
 
-// The refused ones of the steps, each with its line. Not inlined, as its loop is half as long by itself.
+// The refused ones of the steps, each with its line, from the outcomes in the order of the lines.
 #[inline(never)]
 fn refused_steps(heap: Global, refusals: &[Option<Refusal>]) -> Result<Vec<RefusedStep>, AllocError>
-    ensures { IfOk result (λ v. v.items ≡ refused_from 3 refusals.now) }
+    ensures { IfOk result (λ v. v.items ≡ refused_from FIRST_STEP refusals.now) }
 {
     let mut refused = Vec::new(heap);
     for (i, outcome) in refusals.iter().enumerate() {
@@ -34,7 +35,7 @@ fn refused_steps(heap: Global, refusals: &[Option<Refusal>]) -> Result<Vec<Refus
     Ok(refused)
 }
 
-// What is seen of each station below n, which go by their numbers.
+// What is seen of each station below n, in their order.
 fn look_around<R: Rule>(
     heap: Global,
     shed: &Shed,
@@ -58,8 +59,8 @@ fn look_around<R: Rule>(
     Ok(sights)
 }
 
-// Opens a new shed on these buffers, makes the steps and answers the listing. Refused is only the opening. The buffers
-// come one by one, as a struct that borrows a generic caller's own arrays is beyond what the check can walk through.
+// Opens a new shed on these buffers, makes the steps past refusals too, and answers the listing. Refused is only the
+// opening.
 pub(crate) fn run<R: Rule>(
     heap: Global,
     rule: &R,

@@ -7,4 +7,4 @@ pub invariant_of-self-clause-blank : goal.invariant_of-self-clause-blank
 invariant_of-self-clause-blank c =
     let line = c.args.self.now in
     blanks_left line.cells c.copy_from_slice.new.self line.filled (line.filled + length c.args.text.now) line.all (omega arith)
-        (grind (arith, common_steps)) line.blank
+    (grind (arith, common_steps)) line.blank
