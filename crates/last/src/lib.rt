@@ -1,5 +1,5 @@
-// LastVoting: in each phase of four rounds a coordinator collects the stations' values and commits to one, the stations
-// adopt it, they acknowledge it, and they decide.
+//! LastVoting: in each phase of four rounds a coordinator collects the stations' values and commits to one, the stations
+//! adopt it, they acknowledge it, and they decide.
 #![tactic(auto)]
 
 ghost use Rattle.std.specs.Prelude.{◌≡◌, ◌*◌, ◌^◌, ◌<◌, ◌≤◌, Some, nat_lt, refl};
@@ -13,15 +13,15 @@ use last_rule::LAST_STAMP;
 pub use last_rule::{Letter, State};
 use rules::{Rule, count_letters, is_outside};
 
-// The rounds of a phase. Its steps go by their numbers, 0 to 3, as in the rule's table.
-const STEPS: u16 = 4;
+// How many rounds a phase has.
+const PHASE: u16 = 4;
 
 // Where a packed letter's value and stamp begin; the bits below the stamp are 0.
 const VALUE_AT: u32 = 28;
 
 const STAMP_AT: u32 = 17;
 
-// The rule.
+/// The rule.
 #[derive(Clone, Copy)]
 pub struct Last;
 
@@ -36,7 +36,7 @@ fn capped(stamp: u16) -> u16
 fn phase_of(round: u16) -> u16
     ensures { result ≡ phase round }
 {
-    round / STEPS
+    round / PHASE
 }
 
 // The coordinator of the round's phase.
@@ -62,7 +62,6 @@ fn later_of(best: Option<(usize, Letter)>, next: (usize, Letter)) -> (usize, Let
 fn latest_letter(mailbox: &[Option<Letter>]) -> Option<(usize, Letter)>
     ensures { result ≡ latest mailbox.now }
 {
-    // a loop: a `fold` with a `match` in it is no plainer
     let mut best = None;
     for (sender, place) in mailbox.iter().enumerate() {
         if let Some(letter) = place {
@@ -79,7 +78,7 @@ fn hears_majority(n: usize, mailbox: &[Option<Letter>]) -> bool
     count_letters(mailbox) > n / 2
 }
 
-// Step 0: a coordinator that hears more than half commits to the value of the latest letter.
+// First round: a coordinator that hears more than half commits to the value of the latest letter.
 fn collected(n: usize, state: &State, mailbox: &[Option<Letter>]) -> State
     ensures { result ≡ collect n mailbox.now state.now }
 {
@@ -93,7 +92,7 @@ fn collected(n: usize, state: &State, mailbox: &[Option<Letter>]) -> State
     }
 }
 
-// Step 1: who hears the coordinator takes its vote, and the phase's stamp.
+// Second round: who hears the coordinator takes its vote, and the phase's stamp.
 fn adopted(round: u16, state: &State, proposal: Option<Letter>) -> State
     requires { round ≤ LAST_ROUND }
     ensures { result ≡ adopt (phase round) proposal state.now }
@@ -108,7 +107,7 @@ fn adopted(round: u16, state: &State, proposal: Option<Letter>) -> State
     }
 }
 
-// Step 2: a coordinator to whom more than half acknowledge its vote is ready.
+// Third round: a coordinator to whom more than half acknowledge its vote is ready.
 fn acknowledged(n: usize, state: &State, mailbox: &[Option<Letter>]) -> State
     ensures { result ≡ acknowledge n mailbox.now state.now }
 {
@@ -118,7 +117,7 @@ fn acknowledged(n: usize, state: &State, mailbox: &[Option<Letter>]) -> State
     }
 }
 
-// Step 3: who hears the coordinator shows its vote, if no hull is shown; the coordinator clears its marks.
+// Fourth round: who hears the coordinator shows its vote, if no hull is shown; the coordinator clears its marks.
 fn decided(coordinates: bool, state: &State, announcement: Option<Letter>) -> State
     ensures { result ≡ decide coordinates announcement state.now }
 {
@@ -176,8 +175,7 @@ impl Rule for Last {
             return None;
         }
         let coordinator = coordinator_of(n, round);
-        // A match: the four steps are this rule's own, and nobody hands it others, as closures would be.
-        match round % STEPS {
+        match round % PHASE {
             0 if receiver == coordinator => Some(Letter {
                 value: state.value,
                 stamp: capped(state.stamp),
@@ -214,8 +212,7 @@ impl Rule for Last {
         }
         let coordinator = coordinator_of(n, round);
         let coordinates = station == coordinator;
-        // A match, as in `letter`.
-        match round % STEPS {
+        match round % PHASE {
             0 if coordinates => collected(n, state, mailbox),
             1 => adopted(round, state, mailbox[coordinator]),
             2 if coordinates => acknowledged(n, state, mailbox),

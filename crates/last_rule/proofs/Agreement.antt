@@ -6,12 +6,14 @@ use Rattle.rules.specs.declared.TheConstants.{LAST_ROUND}
 use Rattle.rules.specs.Rule.{Opening, Heard, lockstep, Agreement, Validity}
 use Rattle.lists.proofs.Options.{none_some}
 use Rattle.rules.proofs.Runs.{hull_stays}
+use Rattle.last_rule.specs.declared.TheConstants.{LAST_STAMP}
 use Rattle.last_rule.specs.declared.State.{State}
 use Rattle.last_rule.specs.Last.{last, phase}
 use Rattle.last_rule.proofs.Calls.{stable}
 use Rattle.last_rule.proofs.Phase.{Collects, Adopts, Acknowledges, Decides, collects, adopts, acknowledges, decides, rests}
 use Rattle.last_rule.proofs.Locked.{Locked, locked_one, locked_held}
-use Rattle.last_rule.proofs.Committed.{Start, Collected, Adopted, Acknowledged, collect_step, adopt_step, acknowledge_step, decide_step}
+use Rattle.last_rule.proofs.Committed.{Start, Collected, Adopted, Acknowledged, collected_from_start, adopted_from_collected}
+use Rattle.last_rule.proofs.Committed.{acknowledged_from_adopted, start_from_acknowledged}
 
 module _ (values : List ℕ) (opening : Opening last values) (H : Heard) where
   abbrev n : ℕ
@@ -34,35 +36,35 @@ module _ (values : List ℕ) (opening : Opening last values) (H : Heard) where
     ready = λ p v h r. false≢true r.0;
   }
 
-  -- round k of phase f: what each step makes of it
-  module _ (f k : ℕ) (early : f < 1024) (in_phase : phase k ≡ f) where
+  -- round k of phase f: what it makes of the stations
+  module _ (f k : ℕ) (early : f < LAST_STAMP) (in_phase : phase k ≡ f) where
     collected : k % 4 ≡ 0 → Start n Ours f (run k) → Collected n Ours f (run (suc k))
-    collected step =
-        collect_step n Ours opening.some f (run k) (run (suc k)) early
-        (λ p h. subst (λ g. Collects n g (run k) p (run (suc k) p)) in_phase (collects values opening H k p (omega arith) step h))
+    collected which =
+        collected_from_start n Ours opening.some f (run k) (run (suc k)) early
+        (λ p h. subst (λ g. Collects n g (run k) p (run (suc k) p)) in_phase (collects values opening H k p (omega arith) which h))
 
     adopted : k % 4 ≡ 1 → Collected n Ours f (run k) → Adopted n Ours f (run (suc k))
-    adopted step =
-        adopt_step n Ours opening.some f (run k) (run (suc k))
-        (λ p h. subst (λ g. Adopts n g (run k) p (run (suc k) p)) in_phase (adopts values opening H k p (omega arith) step h))
+    adopted which =
+        adopted_from_collected n Ours opening.some f (run k) (run (suc k))
+        (λ p h. subst (λ g. Adopts n g (run k) p (run (suc k) p)) in_phase (adopts values opening H k p (omega arith) which h))
 
     acknowledged : k % 4 ≡ 2 → Adopted n Ours f (run k) → Acknowledged n Ours f (run (suc k))
-    acknowledged step =
-        acknowledge_step n Ours opening.some f (run k) (run (suc k)) early
-        (λ p h. subst (λ g. Acknowledges n g (run k) p (run (suc k) p)) in_phase (acknowledges values opening H k p (omega arith) step h))
+    acknowledged which =
+        acknowledged_from_adopted n Ours opening.some f (run k) (run (suc k)) early
+        (λ p h. subst (λ g. Acknowledges n g (run k) p (run (suc k) p)) in_phase (acknowledges values opening H k p (omega arith) which h))
 
     decided : k % 4 ≡ 3 → Acknowledged n Ours f (run k) → Start n Ours (f + 1) (run (suc k))
-    decided step =
-        decide_step n Ours opening.some f (run k) (run (suc k))
-        (λ p h. subst (λ g. Decides n g (run k) p (run (suc k) p)) in_phase (decides values opening H k p (omega arith) step h))
+    decided which =
+        start_from_acknowledged n Ours opening.some f (run k) (run (suc k))
+        (λ p h. subst (λ g. Decides n g (run k) p (run (suc k) p)) in_phase (decides values opening H k p (omega arith) which h))
 
   -- the round after i rounds of phase f
   abbrev round : (f i : ℕ) → ℕ
   round f zero = 4 * f
   round f (suc i) = suc (round f i)
 
-  -- a phase of rounds up to 4,095
-  whole_phase : (f : ℕ) → f < 1024 → Start n Ours f (run (round f 0)) → Start n Ours (f + 1) (run (round f 4))
+  -- a phase that ends by the last round
+  whole_phase : (f : ℕ) → f < LAST_STAMP → Start n Ours f (run (round f 0)) → Start n Ours (f + 1) (run (round f 4))
   whole_phase f early s =
       decided f (round f 3) early (omega arith) (omega arith)
       (acknowledged f (round f 2) early (omega arith) (omega arith)
@@ -75,7 +77,7 @@ module _ (values : List ℕ) (opening : Opening last values) (H : Heard) where
   resting k late = λ i p. rests values opening H k p late i
 
   -- a phase of later rounds
-  idle_phase : (f : ℕ) → 1024 ≤ f → Start n Ours f (run (round f 0)) → Start n Ours (f + 1) (run (round f 4))
+  idle_phase : (f : ℕ) → LAST_STAMP ≤ f → Start n Ours f (run (round f 0)) → Start n Ours (f + 1) (run (round f 4))
   idle_phase f late s =
       let still : run (round f 4) ≡ run (round f 0) =
       resting (round f 3) (omega arith) ∙ resting (round f 2) (omega arith) ∙ resting (round f 1) (omega arith) ∙ resting (round f 0) (omega arith) in
@@ -90,7 +92,7 @@ module _ (values : List ℕ) (opening : Opening last values) (H : Heard) where
   at_start zero = starts
   at_start (suc f) =
       let next : round f 4 ≡ 4 * suc f = omega arith in
-      subst (λ k. Start n Ours (suc f) (run k)) next (subst (λ g. Start n Ours g (run (round f 4))) (add-one f) (elim (cases_lt f 1024) [
+      subst (λ k. Start n Ours (suc f) (run k)) next (subst (λ g. Start n Ours g (run (round f 4))) (add-one f) (elim (cases_lt f LAST_STAMP) [
         | inl early ↦ whole_phase f early (at_start f)
         | inr late ↦ idle_phase f late (at_start f)
       ]))

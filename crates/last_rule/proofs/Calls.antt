@@ -1,30 +1,32 @@
--- What one call of `letter` tells of its sender, and what one call of `next` does in each step.
-use Rattle.std.specs.Prelude.{◌≡◌, ℕ, ◌+◌, ◌*◌, ◌%◌, Bool, true, false, cond, not, ◌||◌, ltb, length, Some, None, Option, ◌==◌, nat_le, nat_lt, slice_index_or, refl}
+-- What one call of `letter` tells of its sender, and what one call of `next` does in each round of a phase.
+use Rattle.std.specs.Prelude.{◌≡◌, ℕ, ◌+◌, ◌*◌, ◌%◌, Bool, true, false, cond, not, ◌||◌, ltb, length, Some, None, Option, ◌==◌, nat_le, nat_lt}
+use Rattle.std.specs.Prelude.{slice_index_or, refl}
 use Rattle.std.proofs.Common.{sym, ap, subst, ◌∙◌, arith}
 use Rattle.std.proofs.lemmas.Bool.{cond_both, cond-true, cond-false, ltb-true, eqb-true, and_parts, not_from_true, eq-eqb, lt-ltb, or_from}
 use Rattle.rules.specs.Rule.{outside, Stable}
 use Rattle.lists.proofs.Options.{none_some, only, unless}
 use Rattle.last_rule.specs.declared.State.{State}
 use Rattle.last_rule.specs.declared.Letter.{Letter}
-use Rattle.last_rule.specs.Last.{last, phase, coordinator, by_step, stamped, Mailbox, At, heard, latest, committed_to, adopting, readied, commit, collect, adopt, acknowledge, hull_after, decide, writes}
+use Rattle.last_rule.specs.Last.{last, phase, coordinator, by_round, stamped, Mailbox, At, heard, latest, committed_to, adopting, readied, commit}
+use Rattle.last_rule.specs.Last.{collect, adopt, acknowledge, hull_after, decide, writes}
 use Rattle.last_rule.specs.Moves.{VotesForLatest}
 use Rattle.last_rule.proofs.Mailboxes.{has_latest}
 
--- ---- the four steps of a round's number
-at_0 : {A : Type 0} (k : ℕ) (a b c d : A) → k % 4 ≡ 0 → by_step k a b c d ≡ a
-at_0 k a b c d e = rw e
+-- ---- the four rounds of a phase
+at_first : {A : Type 0} (k : ℕ) (a b c d : A) → k % 4 ≡ 0 → by_round k a b c d ≡ a
+at_first k a b c d e = rw e
 
-at_1 : {A : Type 0} (k : ℕ) (a b c d : A) → k % 4 ≡ 1 → by_step k a b c d ≡ b
-at_1 k a b c d e = rw e
+at_second : {A : Type 0} (k : ℕ) (a b c d : A) → k % 4 ≡ 1 → by_round k a b c d ≡ b
+at_second k a b c d e = rw e
 
-at_2 : {A : Type 0} (k : ℕ) (a b c d : A) → k % 4 ≡ 2 → by_step k a b c d ≡ c
-at_2 k a b c d e = rw e
+at_third : {A : Type 0} (k : ℕ) (a b c d : A) → k % 4 ≡ 2 → by_round k a b c d ≡ c
+at_third k a b c d e = rw e
 
-at_3 : {A : Type 0} (k : ℕ) (a b c d : A) → k % 4 ≡ 3 → by_step k a b c d ≡ d
-at_3 k a b c d e = rw e
+at_fourth : {A : Type 0} (k : ℕ) (a b c d : A) → k % 4 ≡ 3 → by_round k a b c d ≡ d
+at_fourth k a b c d e = rw e
 
-pub by_step_both : {A : Type 0} (P : A → Type 0) (k : ℕ) (a b c d : A) → P a → P b → P c → P d → P (by_step k a b c d)
-by_step_both P k a b c d pa pb pc pd =
+pub by_round_both : {A : Type 0} (P : A → Type 0) (k : ℕ) (a b c d : A) → P a → P b → P c → P d → P (by_round k a b c d)
+by_round_both P k a b c d pa pb pc pd =
     cond_both (k % 4 == 0) a _ P (λ _. pa)
     (λ _. cond_both (k % 4 == 1) b _ P (λ _. pb)
     (λ _. cond_both (k % 4 == 2) c d P (λ _. pc) (λ _. pd)))
@@ -42,47 +44,48 @@ pub record Sent (n p k : ℕ) (s : State) (l : Letter) : Type 0 where
 
 pub sent : (n p k q : ℕ) (s : State) (l : Letter) → last.letter n p k s q ≡ Some l → Sent n p k s l
 sent n p k q s l e =
-    let r = unless (outside 16 n p k || nat_le n q) _ l e in
+    let r = unless (outside last.most n p k || nat_le n q) _ l e in
     record {
-      reported = λ z. let w = only _ _ l (sym (at_0 k _ _ _ _ z) ∙ r.1) in letter_is _ _ l w.1;
-      proposed = λ z. let w = only _ _ l (sym (at_1 k _ _ _ _ z) ∙ r.1) in ((and_parts _ _ w.0).1, (letter_is _ _ l w.1).0);
-      confirmed = λ z. let w = only _ _ l (sym (at_2 k _ _ _ _ z) ∙ r.1) in eqb-true _ _ (and_parts _ _ w.0).1;
-      announced = λ z. let w = only _ _ l (sym (at_3 k _ _ _ _ z) ∙ r.1) in ((and_parts _ _ w.0).1, (letter_is _ _ l w.1).0);
+      reported = λ z. let w = only _ _ l (sym (at_first k _ _ _ _ z) ∙ r.1) in letter_is _ _ l w.1;
+      proposed = λ z. let w = only _ _ l (sym (at_second k _ _ _ _ z) ∙ r.1) in ((and_parts _ _ w.0).1, (letter_is _ _ l w.1).0);
+      confirmed = λ z. let w = only _ _ l (sym (at_third k _ _ _ _ z) ∙ r.1) in eqb-true _ _ (and_parts _ _ w.0).1;
+      announced = λ z. let w = only _ _ l (sym (at_fourth k _ _ _ _ z) ∙ r.1) in ((and_parts _ _ w.0).1, (letter_is _ _ l w.1).0);
     }
 
 -- ---- states
--- a call that is accepted does the step of its round
-module _ (n p k : ℕ) (s : State) (m : Mailbox) (accepted : outside 16 n p k ≡ false) (full : length m ≡ n) where
-  accepted_next : last.next n p k s m ≡ by_step k (cond (p == coordinator n k) (collect n m s) s) (adopt (phase k) (slice_index_or m (coordinator n k) None) s)
+-- a call that is accepted does what its round asks
+module _ (n p k : ℕ) (s : State) (m : Mailbox) (accepted : outside last.most n p k ≡ false) (full : length m ≡ n) where
+  accepted_next : last.next n p k s m ≡ by_round k (cond (p == coordinator n k) (collect n m s) s) (adopt (phase k) (slice_index_or m (coordinator n k) None) s)
       (cond (p == coordinator n k) (acknowledge n m s) s) (decide (p == coordinator n k) (slice_index_or m (coordinator n k) None) s)
   accepted_next = cond-false _ _ _ (or_from _ _ accepted (not_from_true _ (eq-eqb _ _ full)))
 
-  pub next_0 : k % 4 ≡ 0 → last.next n p k s m ≡ cond (p == coordinator n k) (collect n m s) s
-  next_0 e = accepted_next ∙ at_0 k _ _ _ _ e
+  pub next_first : k % 4 ≡ 0 → last.next n p k s m ≡ cond (p == coordinator n k) (collect n m s) s
+  next_first e = accepted_next ∙ at_first k _ _ _ _ e
 
-  pub next_1 : k % 4 ≡ 1 → last.next n p k s m ≡ adopt (phase k) (slice_index_or m (coordinator n k) None) s
-  next_1 e = accepted_next ∙ at_1 k _ _ _ _ e
+  pub next_second : k % 4 ≡ 1 → last.next n p k s m ≡ adopt (phase k) (slice_index_or m (coordinator n k) None) s
+  next_second e = accepted_next ∙ at_second k _ _ _ _ e
 
-  pub next_2 : k % 4 ≡ 2 → last.next n p k s m ≡ cond (p == coordinator n k) (acknowledge n m s) s
-  next_2 e = accepted_next ∙ at_2 k _ _ _ _ e
+  pub next_third : k % 4 ≡ 2 → last.next n p k s m ≡ cond (p == coordinator n k) (acknowledge n m s) s
+  next_third e = accepted_next ∙ at_third k _ _ _ _ e
 
-  pub next_3 : k % 4 ≡ 3 → last.next n p k s m ≡ decide (p == coordinator n k) (slice_index_or m (coordinator n k) None) s
-  next_3 e = accepted_next ∙ at_3 k _ _ _ _ e
+  pub next_fourth : k % 4 ≡ 3 → last.next n p k s m ≡ decide (p == coordinator n k) (slice_index_or m (coordinator n k) None) s
+  next_fourth e = accepted_next ∙ at_fourth k _ _ _ _ e
 
   next_collects : k % 4 ≡ 0 → p ≡ coordinator n k → last.next n p k s m ≡ collect n m s
-  next_collects e mine = next_0 e ∙ cond-true _ _ _ (eq-eqb _ _ mine)
+  next_collects e mine = next_first e ∙ cond-true _ _ _ (eq-eqb _ _ mine)
 
 -- a coordinator that hears more than half votes for the latest letter
 votes_for_latest : (n p k : ℕ) (s : State) (m : Mailbox) → VotesForLatest n p k s m (last.next n p k s m)
-votes_for_latest n p k s m accepted full step mine most =
+votes_for_latest n p k s m accepted full which mine most =
     let w = has_latest m (omega arith) in
-    let commits : last.next n p k s m ≡ commit (latest m) s = next_collects n p k s m accepted full step mine ∙ cond-true _ _ _ (lt-ltb _ _ most) in
+    let commits : last.next n p k s m ≡ commit (latest m) s = next_collects n p k s m accepted full which mine ∙ cond-true _ _ _ (lt-ltb _ _ most) in
     (w.0, w.1, w.2, commits ∙ ap (λ o. commit o s) w.3)
 
-pub collecting : (n p k : ℕ) (s : State) (m : Mailbox) (r : State) → r ≡ collect n m s → outside 16 n p k ≡ false → length m ≡ n → k % 4 ≡ 0 → p ≡ coordinator n k →
+pub collecting : (n p k : ℕ) (s : State) (m : Mailbox) (r : State) → r ≡ collect n m s → outside last.most n p k ≡ false → length m ≡ n → k % 4 ≡ 0 →
+    p ≡ coordinator n k →
     (r ≡ last.next n p k s m) × VotesForLatest n p k s m r
-collecting n p k s m r e accepted full step mine =
-    let is : r ≡ last.next n p k s m = e ∙ sym (next_collects n p k s m accepted full step mine) in
+collecting n p k s m r e accepted full which mine =
+    let is : r ≡ last.next n p k s m = e ∙ sym (next_collects n p k s m accepted full which mine) in
     (is, subst (VotesForLatest n p k s m) (sym is) (votes_for_latest n p k s m))
 
 -- what a state can become in a round, whatever the round and the mailbox
@@ -96,8 +99,8 @@ pub record Becomes (P : State → Type 0) (s : State) (m : Mailbox) : Type 0 whe
 pub by_next : (P : State → Type 0) (n p k : ℕ) (s : State) (m : Mailbox) → Becomes P s m → P (last.next n p k s m)
 by_next P n p k s m b =
     let c : ℕ = coordinator n k in
-    cond_both (outside 16 n p k || not (length m == n)) s _ P (λ _. b.same)
-    (λ _. by_step_both P k _ _ _ _
+    cond_both (outside last.most n p k || not (length m == n)) s _ P (λ _. b.same)
+    (λ _. by_round_both P k _ _ _ _
     (cond_both (p == c) _ s P (λ _. cond_both (nat_lt n (2 * heard m)) _ s P commits (λ _. b.same)) (λ _. b.same))
     (adopted (slice_index_or m c None) refl)
     (cond_both (p == c) _ s P (λ _. cond_both (nat_lt n (2 * heard m)) _ s P (λ _. b.readies) (λ _. b.same)) (λ _. b.same))

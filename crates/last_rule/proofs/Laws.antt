@@ -6,10 +6,11 @@ use Rattle.rules.specs.Rule.{outside, Interface, Codec, Ranges, Laws, MailFits}
 use Rattle.std.proofs.lemmas.Bool.Decides.{nat_tests}
 use Rattle.std.proofs.lemmas.Float.{T_from_true}
 use Rattle.lists.proofs.Options.{holds, only, unless}
+use Rattle.last_rule.specs.declared.TheConstants.{LAST_STAMP}
 use Rattle.last_rule.specs.declared.State.{State}
 use Rattle.last_rule.specs.declared.Letter.{Letter}
 use Rattle.last_rule.specs.Last.{last, letter_fits, Mailbox, writes}
-use Rattle.last_rule.proofs.Calls.{letter_is, by_step_both, by_next, stable}
+use Rattle.last_rule.proofs.Calls.{letter_is, by_round_both, by_next, stable}
 use Rattle.last_rule.proofs.Codec.{reads_back, counts_itself, packs_again}
 use Rattle.last_rule.proofs.Agreement.{agreement, validity}
 
@@ -17,10 +18,10 @@ use Rattle.last_rule.proofs.Agreement.{agreement, validity}
 abbrev state_fits : State → Bool
 state_fits s = nat_lt s.value (2 ^ 16) && nat_lt s.vote (2 ^ 16)
 
-letter_small : (l : Letter) → T (letter_fits l) → (l.value < 2 ^ 16) × (l.stamp ≤ 1024)
+letter_small : (l : Letter) → T (letter_fits l) → (l.value < 2 ^ 16) × (l.stamp ≤ LAST_STAMP)
 letter_small l t = let h = holds _ t in grind (arith, nat_tests)
 
-letter_fit : (l : Letter) → l.value < 2 ^ 16 → l.stamp ≤ 1024 → T (letter_fits l)
+letter_fit : (l : Letter) → l.value < 2 ^ 16 → l.stamp ≤ LAST_STAMP → T (letter_fits l)
 letter_fit l a b = T_from_true _ (grind (arith, nat_tests))
 
 state_small : (s : State) → T (state_fits s) → (s.value < 2 ^ 16) × (s.vote < 2 ^ 16)
@@ -32,14 +33,14 @@ state_fit a b = T_from_true _ (grind (arith, nat_tests))
 sent_fits : (n p k q : ℕ) (s : State) (l : Letter) → T (state_fits s) → last.letter n p k s q ≡ Some l → T (letter_fits l)
 sent_fits n p k q s l t e =
     let f = state_small s t in
-    by_step_both (λ o. o ≡ Some l → T (letter_fits l)) k _ _ _ _
+    by_round_both (λ o. o ≡ Some l → T (letter_fits l)) k _ _ _ _
     (small _ _ _ f.0 (omega arith))
     (small _ _ _ f.1 (omega arith))
     (small _ _ _ (omega arith) (omega arith))
     (small _ _ _ f.1 (omega arith))
-    (unless (outside 16 n p k || nat_le n q) _ l e).1
+    (unless (outside last.most n p k || nat_le n q) _ l e).1
   where
-    small : (b : Bool) (v x : ℕ) → v < 2 ^ 16 → x ≤ 1024 → cond b (writes v x) None ≡ Some l → T (letter_fits l)
+    small : (b : Bool) (v x : ℕ) → v < 2 ^ 16 → x ≤ LAST_STAMP → cond b (writes v x) None ≡ Some l → T (letter_fits l)
     small b v x low high y = let r = letter_is v x l (only b _ l y).1 in letter_fit l (omega (arith, r.0)) (omega (arith, r.1))
 
 next_fits : (n p k : ℕ) (s : State) (m : Mailbox) → T (state_fits s) → MailFits letter_fits m → T (state_fits (last.next n p k s m))

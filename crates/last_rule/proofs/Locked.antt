@@ -3,6 +3,7 @@ use Rattle.std.specs.Prelude.{◌≡◌, ℕ, ◌*◌, ◌<◌, ◌≤◌, ltb, 
 use Rattle.std.proofs.Common.{sym, ◌∙◌, inl, inr, arith}
 use Rattle.std.proofs.lemmas.Bool.{ltb-true, lt-ltb}
 use Rattle.lists.proofs.Counting.{count, no_fewer, witness, meet}
+use Rattle.last_rule.specs.declared.TheConstants.{LAST_STAMP}
 use Rattle.last_rule.specs.declared.State.{State}
 use Rattle.last_rule.proofs.Phase.{Vote}
 
@@ -44,7 +45,7 @@ module _ (n : ℕ) where
   }
 
   -- a vote of a coordinator that hears more than half is every locked value
-  pub vote_locked : (f : ℕ) (S : ℕ → State) (v a : ℕ) → f < 1024 → ((p : ℕ) → p < n → (S p).stamp ≤ f) → Vote n S v → Locked S a → v ≡ a
+  pub vote_locked : (f : ℕ) (S : ℕ → State) (v a : ℕ) → f < LAST_STAMP → ((p : ℕ) → p < n → (S p).stamp ≤ f) → Vote n S v → Locked S a → v ≡ a
   vote_locked f S v a early stamps vote x =
       let w = meet n vote.hears (λ p. ltb x.above (S p).stamp) (omega (arith, x.most, vote.most)) in
       let high : x.above < (S vote.from).stamp = omega (

@@ -1,5 +1,6 @@
--- What each of a phase's four steps does to the stations of a lockstep run.
-use Rattle.std.specs.Prelude.{◌≡◌, ℕ, suc, ◌+◌, ◌*◌, ◌%◌, ◌<◌, ◌≤◌, Bool, true, false, cond, ◌⊎◌, List, length, is_some, Some, None, Option, ◌==◌, nat_eq, nat_lt, slice_index_or}
+-- What each of a phase's four rounds does to the stations of a lockstep run.
+use Rattle.std.specs.Prelude.{◌≡◌, ℕ, suc, ◌+◌, ◌*◌, ◌%◌, ◌<◌, ◌≤◌, Bool, true, false, cond, ◌⊎◌, List, length, is_some, Some, None, Option, ◌==◌}
+use Rattle.std.specs.Prelude.{nat_eq, nat_lt, slice_index_or}
 use Rattle.std.proofs.Math.Path.{refl}
 use Rattle.std.proofs.Common.{sym, subst, ◌∙◌, inl, inr, arith}
 use Rattle.std.proofs.lemmas.Bool.{cond_both, eqb-true, eq-eqb, ne_eqb, ltb-true, lt-ltb, le-ltb, lt-leb, or_from, or_left, or_right, cond-true}
@@ -10,9 +11,10 @@ use Rattle.lists.proofs.Tables.{length_tabulate, get_or_tabulate, at_tabulate}
 use Rattle.lists.proofs.Counting.{count, no_fewer, count_by_tabulate}
 use Rattle.last_rule.specs.declared.State.{State}
 use Rattle.last_rule.specs.declared.Letter.{Letter}
-use Rattle.last_rule.specs.Last.{last, phase, coordinator, stamped, Mailbox, At, heard, committed_to, adopting, readied, showing, unmarked, commit, latest, adopt, hull_after}
+use Rattle.last_rule.specs.Last.{last, phase, coordinator, stamped, Mailbox, At, heard, committed_to, adopting, readied, showing, unmarked, commit}
+use Rattle.last_rule.specs.Last.{latest, adopt, hull_after}
 use Rattle.last_rule.proofs.Mailboxes.{letter_there, has_latest}
-use Rattle.last_rule.proofs.Calls.{Sent, sent, next_0, next_1, next_2, next_3}
+use Rattle.last_rule.proofs.Calls.{Sent, sent, next_first, next_second, next_third, next_fourth}
 
 -- a station is committed to v; it is ready to announce v
 abbrev pub Committed : State → (v : ℕ) → Type 0
@@ -32,7 +34,7 @@ module _ (n : ℕ) (S : ℕ → State) where
     pub value : (S from).value ≡ v
     pub largest : (q : ℕ) → q < n → hears q ≡ true → stamped (S q).stamp ≤ stamped (S from).stamp
 
--- what station p's state becomes in each step of phase f, whose coordinator is f % n
+-- what station p's state becomes in each round of phase f, whose coordinator is f % n
 module _ (n f : ℕ) (S : ℕ → State) where
   abbrev pub Collects : (p : ℕ) → State → Type 0
   Collects p s = (s ≡ S p) ⊎ ((p ≡ f % n) × (v : ℕ) × Vote n S v × (s ≡ committed_to v (S p)))
@@ -65,10 +67,11 @@ module _ (values : List ℕ) (opening : Opening last values) (H : Heard) where
   full : (k p : ℕ) → length (mail k p) ≡ n
   full k p = length_tabulate n _
 
-  accepted : (k p : ℕ) → p < n → k ≤ LAST_ROUND → outside 16 n p k ≡ false
+  accepted : (k p : ℕ) → p < n → k ≤ LAST_ROUND → outside last.most n p k ≡ false
   accepted k p h early =
       let some : 1 ≤ n = opening.some in
-      or_from _ _ (or_from _ _ (or_from _ _ (ne_eqb n 0 (λ z. omega arith)) (le-ltb 16 n opening.not_too_many)) (lt-leb n p h)) (le-ltb LAST_ROUND k early)
+      or_from _ _ (or_from _ _ (or_from _ _ (ne_eqb n 0 (λ z. omega arith)) (le-ltb last.most n opening.not_too_many)) (lt-leb n p h))
+      (le-ltb LAST_ROUND k early)
 
   -- a letter in a mailbox was written by its sender
   wrote : (k p q : ℕ) (l : Letter) → At (mail k p) q l → (q < n) × Sent n q k (run k q) l
@@ -90,9 +93,9 @@ module _ (values : List ℕ) (opening : Opening last values) (H : Heard) where
       let l = letter_there (letter_heard last n p k (H p k) (run k) q) e in
       (l.0, get_or_tabulate n (letter_heard last n p k (H p k) (run k)) q None h ∙ l.1)
 
-  -- step 0
+  -- first round
   votes : (k p : ℕ) → k % 4 ≡ 0 → p ≡ coordinator n k → n < 2 * heard (mail k p) → Collects n (phase k) (run k) p (commit (latest (mail k p)) (run k p))
-  votes k p step mine most =
+  votes k p which mine most =
       let w = has_latest (mail k p) (omega arith) in
       let best = wrote k p w.0 w.1 w.2.there in
       let vote : Vote n (run k) w.1.value = record {
@@ -100,60 +103,63 @@ module _ (values : List ℕ) (opening : Opening last values) (H : Heard) where
         most = omega (arith, heard_is k p);
         from = w.0;
         here = best.0;
-        value = sym (best.1.reported step).0;
+        value = sym (best.1.reported which).0;
         largest = λ q h e.
             let l = heard_letter k p q h e in
             let other = wrote k p q l.0 l.1 in
-            omega (arith, (best.1.reported step).1, (other.1.reported step).1, w.2.largest q l.0 l.1);
+            omega (arith, (best.1.reported which).1, (other.1.reported which).1, w.2.largest q l.0 l.1);
       } in
       rw w.3 (inr (mine, w.1.value, vote, refl))
 
   pub collects : (k p : ℕ) → k ≤ LAST_ROUND → k % 4 ≡ 0 → p < n → Collects n (phase k) (run k) p (run (suc k) p)
-  collects k p early step h =
+  collects k p early which h =
       let P : State → Type 0 = Collects n (phase k) (run k) p in
-      subst P (sym (next_is k p ∙ next_0 n p k (run k p) (mail k p) (accepted k p h early) (full k p) step))
+      subst P (sym (next_is k p ∙ next_first n p k (run k p) (mail k p) (accepted k p h early) (full k p) which))
       (cond_both (p == coordinator n k) _ (run k p) P
-      (λ mine. cond_both (nat_lt n (2 * heard (mail k p))) _ (run k p) P (λ most. votes k p step (eqb-true _ _ mine) (ltb-true _ _ most)) (λ _. inl refl))
+      (λ mine. cond_both (nat_lt n (2 * heard (mail k p))) _ (run k p) P (λ most. votes k p which (eqb-true _ _ mine) (ltb-true _ _ most)) (λ _. inl refl))
       (λ _. inl refl))
 
-  -- step 1
+  -- second round
   pub adopts : (k p : ℕ) → k ≤ LAST_ROUND → k % 4 ≡ 1 → p < n → Adopts n (phase k) (run k) p (run (suc k) p)
-  adopts k p early step h =
-      subst (Adopts n (phase k) (run k) p) (sym (next_is k p ∙ next_1 n p k (run k p) (mail k p) (accepted k p h early) (full k p) step))
+  adopts k p early which h =
+      subst (Adopts n (phase k) (run k) p) (sym (next_is k p ∙ next_second n p k (run k p) (mail k p) (accepted k p h early) (full k p) which))
       (go (slice_index_or (mail k p) (coordinator n k) None) refl)
     where
       go : (o : Option Letter) → slice_index_or (mail k p) (coordinator n k) None ≡ o → Adopts n (phase k) (run k) p (adopt (phase k) o (run k p))
       go None e = inl refl
-      go (Some l) e = let f = (wrote k p (coordinator n k) l e).1.proposed step in inr (l.value, (f.0, sym f.1), refl)
+      go (Some l) e = let f = (wrote k p (coordinator n k) l e).1.proposed which in inr (l.value, (f.0, sym f.1), refl)
 
-  -- step 2
+  -- third round
   confirmed : (k p : ℕ) → k % 4 ≡ 2 → n < 2 * heard (mail k p) → n < 2 * count n (λ q. nat_eq (stamped (run k q).stamp) (phase k + 1))
-  confirmed k p step most =
+  confirmed k p which most =
       let more = no_fewer n (hears k p) (λ q. nat_eq (stamped (run k q).stamp) (phase k + 1)) (λ q h e.
       let l = heard_letter k p q h e in
-      eq-eqb _ _ ((wrote k p q l.0 l.1).1.confirmed step)) in
+      eq-eqb _ _ ((wrote k p q l.0 l.1).1.confirmed which)) in
       omega (arith, heard_is k p)
 
   pub acknowledges : (k p : ℕ) → k ≤ LAST_ROUND → k % 4 ≡ 2 → p < n → Acknowledges n (phase k) (run k) p (run (suc k) p)
-  acknowledges k p early step h =
+  acknowledges k p early which h =
       let P : State → Type 0 = Acknowledges n (phase k) (run k) p in
-      subst P (sym (next_is k p ∙ next_2 n p k (run k p) (mail k p) (accepted k p h early) (full k p) step))
+      subst P (sym (next_is k p ∙ next_third n p k (run k p) (mail k p) (accepted k p h early) (full k p) which))
       (cond_both (p == coordinator n k) _ (run k p) P
       (λ mine. cond_both (nat_lt n (2 * heard (mail k p))) _ (run k p) P
-      (λ most. inr (eqb-true _ _ mine, confirmed k p step (ltb-true _ _ most), refl)) (λ _. inl refl))
+      (λ most. inr (eqb-true _ _ mine, confirmed k p which (ltb-true _ _ most), refl)) (λ _. inl refl))
       (λ _. inl refl))
 
-  -- step 3
+  -- fourth round
   pub decides : (k p : ℕ) → k ≤ LAST_ROUND → k % 4 ≡ 3 → p < n → Decides n (phase k) (run k) p (run (suc k) p)
-  decides k p early step h =
-      subst (Decides n (phase k) (run k) p) (sym (next_is k p ∙ next_3 n p k (run k p) (mail k p) (accepted k p h early) (full k p) step))
-      (hull_after (run k p).hull (slice_index_or (mail k p) (coordinator n k) None), way (run k p).hull (slice_index_or (mail k p) (coordinator n k) None) refl refl, refl)
+  decides k p early which h =
+      subst (Decides n (phase k) (run k) p) (sym (next_is k p ∙ next_fourth n p k (run k p) (mail k p) (accepted k p h early) (full k p) which)) (
+        hull_after (run k p).hull (slice_index_or (mail k p) (coordinator n k) None),
+        way (run k p).hull (slice_index_or (mail k p) (coordinator n k) None) refl refl,
+        refl,
+      )
     where
       way : (g : Option ℕ) (o : Option Letter) → (run k p).hull ≡ g → slice_index_or (mail k p) (coordinator n k) None ≡ o →
           (hull_after g o ≡ (run k p).hull) ⊎ ((v : ℕ) × Ready (run k (coordinator n k)) v × (hull_after g o ≡ Some v))
       way (Some a) o e i = inl (sym e)
       way None None e i = inl (sym e)
-      way None (Some l) e i = let f = (wrote k p (coordinator n k) l i).1.announced step in inr (l.value, (f.0, sym f.1), refl)
+      way None (Some l) e i = let f = (wrote k p (coordinator n k) l i).1.announced which in inr (l.value, (f.0, sym f.1), refl)
 
   -- past the last round nothing happens
   pub rests : (k p : ℕ) → LAST_ROUND < k → run (suc k) p ≡ run k p

@@ -1,7 +1,9 @@
--- LastVoting. Four rounds are a phase, and each phase has a coordinator: it collects the stations' values and commits to
--- one, the stations adopt that, they acknowledge it, and they decide.
-use Rattle.std.specs.Prelude.{◌≡◌, ℕ, suc, ◌+◌, ◌*◌, ◌/◌, ◌%◌, ◌^◌, min, Bool, true, false, cond, not, ◌&&◌, ◌||◌, List, [], ◌∷◌, length, is_some, Some, None, count_by, Option, ◌==◌, nat_le, nat_lt, slice_index_or}
+-- LastVoting as functions. Four rounds are a phase, and each phase has a coordinator: it collects the stations' values and
+-- commits to one, the stations adopt that, they acknowledge it, and they decide.
+use Rattle.std.specs.Prelude.{◌≡◌, ℕ, suc, ◌+◌, ◌*◌, ◌/◌, ◌%◌, ◌^◌, min, Bool, true, false, cond, not, ◌&&◌, ◌||◌, List, [], ◌∷◌, length, is_some}
+use Rattle.std.specs.Prelude.{Some, None, count_by, Option, ◌==◌, nat_le, nat_lt, slice_index_or}
 use Rattle.rules.specs.Rule.{Behaviour, outside}
+use Rattle.last_rule.specs.declared.TheConstants.{LAST_STAMP}
 use Rattle.last_rule.specs.declared.State.{State}
 use Rattle.last_rule.specs.declared.Letter.{Letter}
 
@@ -12,14 +14,14 @@ phase k = k / 4
 abbrev pub coordinator : (n round : ℕ) → ℕ
 coordinator n k = phase k % n
 
--- a term for each of the four steps of a phase
-abbrev pub by_step : {A : Type 0} → (round : ℕ) → A → A → A → A → A
-by_step k a b c d = cond (k % 4 == 0) a (cond (k % 4 == 1) b (cond (k % 4 == 2) c d))
+-- a term for each of the four rounds of a phase
+abbrev pub by_round : {A : Type 0} → (round : ℕ) → A → A → A → A → A
+by_round k a b c d = cond (k % 4 == 0) a (cond (k % 4 == 1) b (cond (k % 4 == 2) c d))
 
--- ---- stamps: cells are plain
+-- ---- stamps
 -- what the number in a stamp's cell counts as
 abbrev pub stamped : ℕ → ℕ
-stamped x = min x 1024
+stamped x = min x LAST_STAMP
 
 -- what the letter in a cell counts as
 abbrev pub counted : Letter → Letter
@@ -55,7 +57,7 @@ latest_from q best (Some l ∷ m) = latest_from (suc q) (Some (later best (q, l)
 abbrev pub latest : Mailbox → Option Signed
 latest m = latest_from 0 None m
 
--- ---- what a step makes of a state
+-- ---- what a round makes of a state
 abbrev pub committed_to : (vote : ℕ) → State → State
 committed_to v s = record { value = s.value; stamp = s.stamp; vote = v; committed = true; ready = s.ready; hull = s.hull }
 
@@ -71,22 +73,22 @@ showing h s = record { value = s.value; stamp = s.stamp; vote = s.vote; committe
 abbrev pub unmarked : State → State
 unmarked s = record { value = s.value; stamp = s.stamp; vote = s.vote; committed = false; ready = false; hull = s.hull }
 
--- ---- the four steps
+-- ---- the next states of the four rounds
 -- a coordinator commits to the value that it chose
 abbrev pub commit : Option Signed → State → State
 commit None s = s
 commit (Some chosen) s = committed_to chosen.1.value s
 
--- step 0: a coordinator that hears more than half commits to the value of the latest letter
+-- first round: a coordinator that hears more than half commits to the value of the latest letter
 abbrev pub collect : (n : ℕ) → Mailbox → State → State
 collect n m s = cond (nat_lt n (2 * heard m)) (commit (latest m) s) s
 
--- step 1: who hears the coordinator takes its vote, and the phase's stamp
+-- second round: who hears the coordinator takes its vote, and the phase's stamp
 abbrev pub adopt : (phase : ℕ) → Option Letter → State → State
 adopt f None s = s
 adopt f (Some l) s = adopting l.value (f + 1) s
 
--- step 2: a coordinator to whom more than half acknowledge its vote is ready
+-- third round: a coordinator to whom more than half acknowledge its vote is ready
 abbrev pub acknowledge : (n : ℕ) → Mailbox → State → State
 acknowledge n m s = cond (nat_lt n (2 * heard m)) (readied s) s
 
@@ -96,29 +98,29 @@ hull_after (Some h) o = Some h
 hull_after None None = None
 hull_after None (Some l) = Some l.value
 
--- step 3: who hears the coordinator shows its vote, if no hull is shown; the coordinator clears its marks
+-- fourth round: who hears the coordinator shows its vote, if no hull is shown; the coordinator clears its marks
 abbrev pub decide : (coordinates : Bool) → Option Letter → State → State
 decide coordinates o s =
     let after : State = showing (hull_after s.hull o) s in
     cond coordinates (unmarked after) after
 
--- ---- the letters of the four steps
+-- ---- the letters of the four rounds
 abbrev pub writes : (value stamp : ℕ) → Option Letter
 writes v x = Some (record { value = v; stamp = x })
 
--- step 0: every station, to the coordinator: its value and stamp
+-- first round: every station, to the coordinator: its value and stamp
 abbrev pub report : (to_coordinator : Bool) → State → Option Letter
 report to s = cond to (writes s.value (stamped s.stamp)) None
 
--- step 1: a committed coordinator, to every station: its vote
+-- second round: a committed coordinator, to every station: its vote
 abbrev pub propose : (coordinates : Bool) → State → Option Letter
 propose mine s = cond (mine && s.committed) (writes s.vote 0) None
 
--- step 2: who adopted the phase's vote, to the coordinator: only that
+-- third round: who adopted the phase's vote, to the coordinator: only that
 abbrev pub confirm : (phase : ℕ) → (to_coordinator : Bool) → State → Option Letter
 confirm f to s = cond (to && stamped s.stamp == f + 1) (writes 0 0) None
 
--- step 3: a ready coordinator, to every station: its vote
+-- fourth round: a ready coordinator, to every station: its vote
 abbrev pub announce : (coordinates : Bool) → State → Option Letter
 announce mine s = cond (mine && s.ready) (writes s.vote 0) None
 
@@ -128,10 +130,11 @@ pack_letter l = l.value * 2 ^ 28 + stamped l.stamp * 2 ^ 17
 
 abbrev pub unpack_letter : ℕ → Option Letter
 unpack_letter w =
-    cond (w % 2 ^ 17 == 0 && nat_lt (w / 2 ^ 28) (2 ^ 16) && nat_le ((w / 2 ^ 17) % 2 ^ 11) 1024)
+    cond (w % 2 ^ 17 == 0 && nat_lt (w / 2 ^ 28) (2 ^ 16) && nat_le ((w / 2 ^ 17) % 2 ^ 11) LAST_STAMP)
     (writes (w / 2 ^ 28) ((w / 2 ^ 17) % 2 ^ 11)) None
 
 -- ---- the rule
+-- n stations, a station p, a round k, an opening value v, a state s, a receiver q, a mailbox m; c is the round's coordinator
 abbrev pub last : Behaviour State Letter
 last = record {
   most = 16;
@@ -139,11 +142,11 @@ last = record {
   letter = λ n p k s q.
       let c : ℕ = coordinator n k in
       cond (outside 16 n p k || nat_le n q) None
-      (by_step k (report (q == c) s) (propose (p == c) s) (confirm (phase k) (q == c) s) (announce (p == c) s));
+      (by_round k (report (q == c) s) (propose (p == c) s) (confirm (phase k) (q == c) s) (announce (p == c) s));
   next = λ n p k s m.
       let c : ℕ = coordinator n k in
       cond (outside 16 n p k || not (length m == n)) s
-      (by_step k
+      (by_round k
       (cond (p == c) (collect n m s) s)
       (adopt (phase k) (slice_index_or m c None) s)
       (cond (p == c) (acknowledge n m s) s)
@@ -155,4 +158,4 @@ last = record {
 
 -- the letters whose numbers are within their ranges
 abbrev pub letter_fits : Letter → Bool
-letter_fits l = nat_lt l.value (2 ^ 16) && nat_le l.stamp 1024
+letter_fits l = nat_lt l.value (2 ^ 16) && nat_le l.stamp LAST_STAMP

@@ -3,7 +3,7 @@ use Rattle.std.specs.Prelude.{◌≡◌, ℕ, ◌*◌, ◌%◌, ◌<◌, ◌≤�
 use Rattle.rules.specs.Rule.{outside}
 use Rattle.last_rule.specs.declared.State.{State}
 use Rattle.last_rule.specs.declared.Letter.{Letter}
-use Rattle.last_rule.specs.Last.{Mailbox, At, stamped, heard, coordinator, committed_to}
+use Rattle.last_rule.specs.Last.{last, Mailbox, At, stamped, heard, coordinator, committed_to}
 
 -- l, of sender q, is the latest letter: it is there, no letter has a larger stamp, and none of a lower sender has as large a stamp
 pub record Latest (m : Mailbox) (q : ℕ) (l : Letter) : Type 0 where
@@ -14,5 +14,5 @@ pub record Latest (m : Mailbox) (q : ℕ) (l : Letter) : Type 0 where
 -- what a coordinator that collects votes for: the latest letter of its mailbox, if it hears more than half
 abbrev pub VotesForLatest : (n station round : ℕ) → (before : State) → Mailbox → (after : State) → Type 0
 VotesForLatest n p k s m after =
-    outside 16 n p k ≡ false → length m ≡ n → k % 4 ≡ 0 → p ≡ coordinator n k → n < 2 * heard m →
+    outside last.most n p k ≡ false → length m ≡ n → k % 4 ≡ 0 → p ≡ coordinator n k → n < 2 * heard m →
     (q : ℕ) × (l : Letter) × Latest m q l × (after ≡ committed_to l.value s)

@@ -12,6 +12,11 @@ none_some e = absurd (none-some _ e)
 pub same_some : {A : Type 0} {a b : A} → Some a ≡ Some b → a ≡ b
 same_some e = cc
 
+-- an option that is no Some is None
+pub no_some : {A : Type 0} (o : Option A) → ((a : A) → o ≡ Some a → ⊥) → o ≡ None
+no_some None none = refl
+no_some (Some a) none = absurd (none a refl)
+
 -- there is something only where the test holds
 pub only : {A : Type 0} (t : Bool) (y : Option A) (a : A) → cond t y None ≡ Some a → (t ≡ true) × (y ≡ Some a)
 only true y a e = (refl, e)

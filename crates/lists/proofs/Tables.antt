@@ -1,5 +1,6 @@
 -- Lists made from a function, and cells that are written one after another.
-use Rattle.std.proofs.Common.{◌≡◌, ℕ, zero, suc, ◌+◌, ◌<◌, ◌≤◌, List, [], ◌∷◌, ◌++◌, length, get_or, take, drop, set, replicate, Some, None, Option, sym, refl, ap, ◌∙◌, subst, add-one, arith}
+use Rattle.std.proofs.Common.{◌≡◌, ℕ, zero, suc, ◌+◌, ◌<◌, ◌≤◌, List, [], ◌∷◌, ◌++◌, length, get_or, take, drop, set, replicate, Some, None, Option}
+use Rattle.std.proofs.Common.{sym, refl, ap, ◌∙◌, subst, add-one, arith}
 use Rattle.std.proofs.lemmas.List.{length-set, get_or-set_same, get_or-set_other, set_past, take_at, drop_at, get_or_append_left}
 use Rattle.lists.specs.Lists.{tabulate, written, put}
 use Rattle.lists.proofs.Options.{none_some}
@@ -24,12 +25,16 @@ module _ {A : Type 0} where
   tabulate_more (suc n) f = ap (λ ys. f 0 ∷ ys) (tabulate_more n (λ k. f (suc k)))
 
   -- one place of a table is written
-  pub tabulate_set : (n : ℕ) (f g : ℕ → A) (i : ℕ) (v : A) → i < n → g i ≡ v → ((p : ℕ) → p < n → (p ≡ i → ⊥) → g p ≡ f p) → set (tabulate n f) i v ≡ tabulate n g
+  pub tabulate_set : (n : ℕ) (f g : ℕ → A) (i : ℕ) (v : A) → i < n → g i ≡ v → ((p : ℕ) → p < n → (p ≡ i → ⊥) → g p ≡ f p) →
+      set (tabulate n f) i v ≡ tabulate n g
   tabulate_set zero f g i v h here there = absurd (omega arith)
   tabulate_set (suc n) f g zero v h here there =
       cc (tabulate_same n (λ k. f (suc k)) (λ k. g (suc k)) (λ p l. sym (there (suc p) (omega arith) (λ e. omega arith))))
   tabulate_set (suc n) f g (suc i) v h here there =
-      cc (there 0 (omega arith) (λ e. omega arith), tabulate_set n (λ k. f (suc k)) (λ k. g (suc k)) i v (omega arith) here (λ p l e. there (suc p) (omega arith) (λ z. e (omega arith))))
+      cc (
+        there 0 (omega arith) (λ e. omega arith),
+        tabulate_set n (λ k. f (suc k)) (λ k. g (suc k)) i v (omega arith) here (λ p l e. there (suc p) (omega arith) (λ z. e (omega arith))),
+      )
 
   -- ---- one value at every place
   pub get_or_replicate_all : (m i : ℕ) (a : A) → get_or (replicate m a) i a ≡ a
@@ -104,7 +109,8 @@ module _ {A : Type 0} where
   put_table_more i f xs ys v e here =
       let place : 0 + length (tabulate i f) ≡ i = omega (arith, length_tabulate i f) in
       rw (add-one i, tabulate_more i f)
-      (ap (λ zs. set zs i v) e ∙ ap (set (put xs 0 (tabulate i f)) i) here ∙ sym (put_more (tabulate i f) xs 0 (f i) ∙ ap (λ j. set (put xs 0 (tabulate i f)) j (f i)) place))
+      (ap (λ zs. set zs i v) e ∙ ap (set (put xs 0 (tabulate i f)) i) here
+      ∙ sym (put_more (tabulate i f) xs 0 (f i) ∙ ap (λ j. set (put xs 0 (tabulate i f)) j (f i)) place))
 
   -- a table that fits is written
   pub put_table : (n : ℕ) (f : ℕ → A) (xs : List A) → n ≤ length xs → put xs 0 (tabulate n f) ≡ written n f xs

@@ -46,7 +46,8 @@ module _ {S L : Type 0} (R : Behaviour S L) (values : List ℕ) where
   unfolding lockstep
   run_fits ranges small H zero p h = ranges.first_fits (length values) p (get_or values p 0) (small p h)
   run_fits ranges small H (suc k) p h =
-      ranges.next_fits (length values) p k (lockstep R values H k p) (mailbox R (length values) p k (H p k) (lockstep R values H k)) (run_fits ranges small H k p h)
+      ranges.next_fits (length values) p k (lockstep R values H k p) (mailbox R (length values) p k (H p k) (lockstep R values H k))
+      (run_fits ranges small H k p h)
       (mail_fits ranges H k p (run_fits ranges small H k))
 
   -- a hull that is shown in a round is shown in every later one
@@ -56,5 +57,6 @@ module _ {S L : Type 0} (R : Behaviour S L) (values : List ℕ) where
   hull_stays stable H p x k zero h e = let z : 0 ≡ k = omega arith in rw z e
   hull_stays stable H p x k (suc m) h e = elim (cases_eq k (suc m)) [
     | inl z ↦ subst (λ i. R.hull (lockstep R values H i p) ≡ Some x) z e
-    | inr z ↦ stable (length values) p m x (lockstep R values H m p) (mailbox R (length values) p m (H p m) (lockstep R values H m)) (hull_stays stable H p x k m (omega arith) e)
+    | inr z ↦ stable (length values) p m x (lockstep R values H m p) (mailbox R (length values) p m (H p m) (lockstep R values H m))
+        (hull_stays stable H p x k m (omega arith) e)
   ]

@@ -1,5 +1,6 @@
 -- A voting rule as functions, its lockstep run, and what every rule has to show.
-use Rattle.std.specs.Prelude.{◌≡◌, ℕ, zero, suc, ◌^◌, ◌<◌, ◌≤◌, Bool, cond, ◌||◌, T, List, length, Some, None, Option, ◌==◌, ◌≢◌, nat_le, nat_lt, slice_index, slice_index_or}
+use Rattle.std.specs.Prelude.{◌≡◌, ℕ, zero, suc, ◌^◌, ◌<◌, ◌≤◌, Bool, cond, ◌||◌, T, List, length, Some, None, Option, ◌==◌, ◌≢◌, nat_le, nat_lt}
+use Rattle.std.specs.Prelude.{slice_index, slice_index_or}
 use Rattle.std.specs.Borrow.{Array, RattleType}
 use Rattle.std.specs.Mem.{FitsInMemory}
 use Rattle.std.specs.contracts.option.Option.{the_row as option}

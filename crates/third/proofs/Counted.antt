@@ -1,10 +1,12 @@
 -- Counting each value from its first sender on is enough to choose the most frequent one, and its count shows a quorum.
-use Rattle.std.proofs.Common.{◌≡◌, ◌≢◌, ℕ, ◌+◌, ◌-◌, ◌*◌, ◌≤◌, ◌<◌, true, false, cond, Option, Some, None, length, get_or, take, drop, fold, nat_lt, Option, Some, None, refl, ap, ◌∙◌, inl, inr, arith}
+use Rattle.std.proofs.Common.{◌≡◌, ◌≢◌, ℕ, ◌+◌, ◌-◌, ◌*◌, ◌≤◌, ◌<◌, true, false, cond, Some, None, length, get_or, take, drop, fold, nat_lt}
+use Rattle.std.proofs.Common.{Some, None, ap, ◌∙◌, inl, inr, arith}
 use Rattle.std.proofs.lemmas.List.Sums.{fold_more, sum_by-take-drop}
 use Rattle.std.specs.Bool.{then_some}
 use Rattle.std.proofs.lemmas.List.{take_all, length-drop}
 use Rattle.std.proofs.lemmas.Bool.{cases_eq, cases_Bool, ltb-true, ltb-false}
 use Rattle.std.proofs.lemmas.Bool.Decides.{nat_tests}
+use Rattle.lists.proofs.Options.{no_some}
 use Rattle.lists.proofs.Counting.{found_by}
 use Rattle.third_rule.specs.declared.Letter.{Letter}
 use Rattle.third_rule.specs.Third.{Mailbox, says, occurs, before, better, most_frequent, quorum_value}
@@ -41,15 +43,12 @@ module _ (m : Mailbox) (own i : ℕ) (l : Letter) (best most count : ℕ)
     | inr known ↦ let good = compared (omega arith) in grind (arith, nat_tests, onward, good.as_often, good.tie)
   ]
 
-no_quorum : (o : Option ℕ) → ((v : ℕ) → o ≢ Some v) → o ≡ None
-no_quorum None none = refl
-no_quorum (Some v) none = absurd (none v refl)
-
 -- the winner is the only value that can be a quorum's
-pub winner_quorum : (n : ℕ) (m : Mailbox) (d best count : ℕ) → best ≡ most_frequent m d → count ≡ occurs best m → length m ≤ n → quorum_value n m ≡ then_some (nat_lt (2 * n) (3 * count)) best
+pub winner_quorum : (n : ℕ) (m : Mailbox) (d best count : ℕ) → best ≡ most_frequent m d → count ≡ occurs best m → length m ≤ n →
+    quorum_value n m ≡ then_some (nat_lt (2 * n) (3 * count)) best
 winner_quorum n m d best count won often short =
     let no_more : (v : ℕ) → occurs v m ≤ occurs best m = λ v. rw won (winner_most m d v) in
     elim (cases_Bool (nat_lt (2 * n) (3 * count))) [
       | inl e ↦ rw e (quorum_is n m best short (rw (← often) (ltb-true _ _ e)))
-      | inr e ↦ rw e (no_quorum (quorum_value n m) (λ v found. omega (arith, ltb-false _ _ e, often, no_more v, quorum_occurs n m m v found)))
+      | inr e ↦ rw e (no_some (quorum_value n m) (λ v found. omega (arith, ltb-false _ _ e, often, no_more v, quorum_occurs n m m v found)))
     ]

@@ -1,4 +1,4 @@
-// OneThirdRule: a station that hears more than two thirds of the stations takes the value that it hears most often.
+//! OneThirdRule: a station that hears more than two thirds of the stations takes the value that it hears most often.
 #![tactic(auto)]
 
 ghost use Rattle.std.specs.Prelude.{◌≡◌, ◌*◌, ◌≤◌, false, length, nat_lt, refl};
@@ -16,7 +16,6 @@ fn count_of(value: u16, mailbox: &[Option<Letter>]) -> usize
     ensures value { result ≡ occurs value mailbox.now }
     ensures bound { result ≤ length mailbox.now }
 {
-    // a loop: with `filter(..).count()` the program takes a tenth more instructions on its longest schedule
     let mut count = 0;
     for place in mailbox {
         if *place == Some(Letter { value }) {
@@ -66,7 +65,7 @@ fn commonest(mailbox: &[Option<Letter>], own: u16) -> (u16, usize)
     (best, most)
 }
 
-// The rule.
+/// The rule.
 #[derive(Clone, Copy)]
 pub struct Third;
 

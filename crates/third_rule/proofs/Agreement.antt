@@ -1,5 +1,6 @@
 -- In a lockstep run a value of more than two thirds of the stations stays, and a hull is such a value.
-use Rattle.std.specs.Prelude.{◌≡◌, ℕ, zero, suc, ◌+◌, ◌*◌, ◌<◌, ◌≤◌, Bool, true, cond, not, ◌||◌, ◌⊎◌, List, length, is_some, Some, None, Option, ◌==◌, nat_eq, nat_le, nat_lt, slice_index, refl}
+use Rattle.std.specs.Prelude.{◌≡◌, ℕ, zero, suc, ◌+◌, ◌*◌, ◌<◌, ◌≤◌, Bool, true, cond, not, ◌||◌, ◌⊎◌, List, length, is_some, Some, None, Option}
+use Rattle.std.specs.Prelude.{◌==◌, nat_eq, nat_le, nat_lt, slice_index, refl}
 use Rattle.std.proofs.Common.{◌∙◌}
 use Rattle.std.proofs.Math.Logic.{inl, inr}
 use native.Mathlib.Omega.{arith}
@@ -15,15 +16,17 @@ use Rattle.lists.proofs.Counting.{count, overlap, no_fewer, witness, meet, count
 use Rattle.third_rule.proofs.Mailbox.{winner_most, winner_heard, quorum_occurs}
 
 -- what holds of the state and of a changed one holds of the next
-pub by_next : (P : State → Type 0) (n p k : ℕ) (s : State) (m : List (Option Letter)) → P s → P (record { value = next_value n s.value m; hull = option_or s.hull (quorum_value n m) }) → P (third.next n p k s m)
-by_next P n p k s m old new = cond_both (outside 16 n p k || not (length m == n)) s _ P (λ _. old) (λ _. new)
+pub by_next : (P : State → Type 0) (n p k : ℕ) (s : State) (m : List (Option Letter)) → P s →
+    P (record { value = next_value n s.value m; hull = option_or s.hull (quorum_value n m) }) → P (third.next n p k s m)
+by_next P n p k s m old new = cond_both (outside third.most n p k || not (length m == n)) s _ P (λ _. old) (λ _. new)
 
 -- a place of a mailbox says what its sender's value is
-said : (b c : Bool) (x v : ℕ) → says v (cond b (cond c None (Some (record { value = x }))) None) ≡ true → (x == v) ≡ true
-said b c x v h = grind arith
+said_is_value : (b c : Bool) (x v : ℕ) → says v (cond b (cond c None (Some (record { value = x }))) None) ≡ true → (x == v) ≡ true
+said_is_value b c x v h = grind arith
 
-saying : (b c : Bool) (x v : ℕ) → is_some {T = Letter} (cond b (cond c None (Some (record { value = x }))) None) ≡ true → (x == v) ≡ true → says v (cond b (cond c None (Some (record { value = x }))) None) ≡ true
-saying b c x v h e = grind arith
+value_is_said : (b c : Bool) (x v : ℕ) → is_some {T = Letter} (cond b (cond c None (Some (record { value = x }))) None) ≡ true → (x == v) ≡ true →
+    says v (cond b (cond c None (Some (record { value = x }))) None) ≡ true
+value_is_said b c x v h e = grind arith
 
 first_came : (a b : Option ℕ) (v : ℕ) → option_or a b ≡ Some v → (a ≡ Some v) ⊎ (b ≡ Some v)
 first_came (Some h) b v e = inl e
@@ -48,7 +51,7 @@ module _ (values : List ℕ) (H : Heard) where
   Locked k v = 2 * length values < 3 * holders k v
 
   place_said : (k p q v : ℕ) → says v (place k p q) ≡ true → (value_of k q == v) ≡ true
-  place_said k p q v h = said (H p k q) (outside 16 (length values) q k || nat_le (length values) p) (value_of k q) v h
+  place_said k p q v h = said_is_value (H p k q) (outside third.most (length values) q k || nat_le (length values) p) (value_of k q) v h
 
   occurs_holders : (k p v : ℕ) → occurs v (mail k p) ≤ holders k v
   occurs_holders k p v =
@@ -63,9 +66,15 @@ module _ (values : List ℕ) (H : Heard) where
       let m = mail k p in
       let w = most_frequent m d in
       let often = overlap n (λ q. is_some (place k p q)) (λ q. nat_eq (value_of k q) v) (λ q. says v (place k p q))
-      (λ q _ f e. saying (H p k q) (outside 16 n q k || nat_le n p) (value_of k q) v f e) in
+      (λ q _ f e. value_is_said (H p k q) (outside third.most n q k || nat_le n p) (value_of k q) v f e) in
       let both = meet n (λ q. says w (place k p q)) (λ q. nat_eq (value_of k q) v)
-      (omega (arith, winner_most m d v, count_by_tabulate is_some n (place k p), count_by_tabulate (says v) n (place k p), count_by_tabulate (says w) n (place k p))) in
+      (omega (
+        arith,
+        winner_most m d v,
+        count_by_tabulate is_some n (place k p),
+        count_by_tabulate (says v) n (place k p),
+        count_by_tabulate (says w) n (place k p),
+      )) in
       omega (arith, eqb-true _ _ (place_said k p both.0 w both.2), eqb-true _ _ both.3)
 
   keeps : (k p v : ℕ) → Locked k v → value_of k p ≡ v → value_of (suc k) p ≡ v
@@ -84,7 +93,8 @@ module _ (values : List ℕ) (H : Heard) where
       (λ q _ h. eq-eqb (value_of (suc k) q) v (keeps k q v lock (eqb-true (value_of k q) v h))) in
       omega arith
 
-  hull_came : (k p v : ℕ) → (lockstep third values H (suc k) p).hull ≡ Some v → ((lockstep third values H k p).hull ≡ Some v) ⊎ (quorum_value (length values) (mail k p) ≡ Some v)
+  hull_came : (k p v : ℕ) → (lockstep third values H (suc k) p).hull ≡ Some v →
+      ((lockstep third values H k p).hull ≡ Some v) ⊎ (quorum_value (length values) (mail k p) ≡ Some v)
   unfolding lockstep
   hull_came k p v =
       let s = lockstep third values H k p in

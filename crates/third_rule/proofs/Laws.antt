@@ -13,13 +13,13 @@ use Rattle.lists.proofs.Options.{holds, unless, same_some}
 use Rattle.third_rule.proofs.Agreement.{by_next, third_agreement, third_validity}
 
 -- what a letter carries
-sent : (b : Bool) (x : ℕ) (l : Letter) → ◌≡◌ {A = Option Letter} (cond b None (Some (record { value = x }))) (Some l) → x ≡ l.value
-sent b x l e = ap (λ y. y.value) (same_some (unless b _ l e).1)
+sent_value : (b : Bool) (x : ℕ) (l : Letter) → ◌≡◌ {A = Option Letter} (cond b None (Some (record { value = x }))) (Some l) → x ≡ l.value
+sent_value b x l e = ap (λ y. y.value) (same_some (unless b _ l e).1)
 
 -- the letter that a place has
-said : (o : Option Letter) (v : ℕ) → says v o ≡ true → (l : Letter) × (o ≡ Some l) × (l.value ≡ v)
-said None v h = absurd (false≢true h)
-said (Some l) v h = (l, refl, eqb-true l.value v h)
+letter_said : (o : Option Letter) (v : ℕ) → says v o ≡ true → (l : Letter) × (o ≡ Some l) × (l.value ≡ v)
+letter_said None v h = absurd (false≢true h)
+letter_said (Some l) v h = (l, refl, eqb-true l.value v h)
 
 abbrev Fits16 : ℕ → Type 0
 Fits16 x = T (nat_lt x (2 ^ 16))
@@ -37,7 +37,7 @@ pub third_ranges : Ranges third letter_fits
 third_ranges = record {
   state_fits = λ s. nat_lt s.value (2 ^ 16);
   first_fits = λ n p v h. lt→ltb v (2 ^ 16) h;
-  sent_fits = λ n p k q s l t e. subst Fits16 (sent (outside 16 n p k || nat_le n q) s.value l e) t;
+  sent_fits = λ n p k q s l t e. subst Fits16 (sent_value (outside third.most n p k || nat_le n q) s.value l e) t;
   next_fits = λ n p k s m t fits.
       let P : State → Type 0 = λ s. Fits16 s.value in
       let w = most_frequent m s.value in
@@ -46,7 +46,7 @@ third_ranges = record {
       (λ u.
       let some : 0 < heard m = omega (arith, ltb-true (2 * n) (3 * heard m) u) in
       let f = found_by (says w) None m (winner_heard m s.value some) in
-      let g = said (slice_index_or m f.0 None) w f.2 in
+      let g = letter_said (slice_index_or m f.0 None) w f.2 in
       subst Fits16 g.2 (fits f.0 g.0 g.1))
       (λ _. t));
 }

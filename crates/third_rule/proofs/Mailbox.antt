@@ -1,4 +1,5 @@
--- What the counts of a mailbox give: the winner is the value that occurs most often, the smallest of these in a tie, and a quorum's value is the one that occurs often enough.
+-- What the counts of a mailbox give: the winner is the value that occurs most often, the smallest of these in a tie, and
+-- a quorum's value is the one that occurs often enough.
 use Rattle.std.specs.Prelude.{◌≡◌, ℕ, zero, suc, ◌*◌, ◌<◌, ◌≤◌, true, cond, [], ◌∷◌, length, is_some, Some, None, fold, Option, nat_lt, slice_index_or, refl}
 use Rattle.std.proofs.Common.{sym, ap, ◌∙◌, inl, inr, arith}
 use Rattle.std.proofs.lemmas.List.Sums.{get_or-le-sum_by}
@@ -82,7 +83,8 @@ quorum_occurs n m (Some l ∷ places) v h = elim (cases_Bool (nat_lt (2 * n) (3 
 ]
 
 -- a value of the places that occurs often enough is found, or one before it
-quorum_found : (n : ℕ) (m places : Mailbox) (v q : ℕ) → says v (slice_index_or places q None) ≡ true → 2 * n < 3 * occurs v m → (u : ℕ) × (quorum_from n m places ≡ Some u)
+quorum_found : (n : ℕ) (m places : Mailbox) (v q : ℕ) → says v (slice_index_or places q None) ≡ true → 2 * n < 3 * occurs v m →
+    (u : ℕ) × (quorum_from n m places ≡ Some u)
 quorum_found n m [] v q h often = absurd (false≢true h)
 quorum_found n m (None ∷ places) v zero h often = absurd (false≢true h)
 quorum_found n m (None ∷ places) v (suc q) h often = quorum_found n m places v q h often
@@ -90,7 +92,8 @@ quorum_found n m (Some l ∷ places) v zero h often =
     let same : l.value ≡ v = eqb-true l.value v h in
     (l.value, cond-true (nat_lt (2 * n) (3 * occurs l.value m)) _ _ (lt-ltb (2 * n) (3 * occurs l.value m) (rw same often)))
 quorum_found n m (Some l ∷ places) v (suc q) h often =
-    cond_both (nat_lt (2 * n) (3 * occurs l.value m)) (Some l.value) (quorum_from n m places) (λ r. (u : ℕ) × (r ≡ Some u)) (λ _. (l.value, refl)) (λ _. quorum_found n m places v q h often)
+    cond_both (nat_lt (2 * n) (3 * occurs l.value m)) (Some l.value) (quorum_from n m places) (λ r. (u : ℕ) × (r ≡ Some u)) (λ _. (l.value, refl))
+    (λ _. quorum_found n m places v q h often)
 
 -- a letter has one value
 says_one : (o : Option Letter) (u v : ℕ) → says u o ≡ true → says v o ≡ true → u ≡ v

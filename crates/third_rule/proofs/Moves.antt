@@ -22,7 +22,7 @@ module _ (n : ℕ) (s : State) (m : Mailbox) (whole : length m ≡ n) where
     only_shows = λ v e shown. quorum_occurs n m m v (rw e at shown);
   }
 
-pub moves : (n p k : ℕ) (s : State) (m : Mailbox) (r : State) → r ≡ third.next n p k s m → outside 16 n p k ≡ false → length m ≡ n → Moves n s m r
+pub moves : (n p k : ℕ) (s : State) (m : Mailbox) (r : State) → r ≡ third.next n p k s m → outside third.most n p k ≡ false → length m ≡ n → Moves n s m r
 moves n p k s m r e inside whole =
-    rw (e, cond-false (outside 16 n p k || not (eqb (length m) n)) s (after n s m whole) (or_from _ _ inside (not_from_true _ (eq-eqb _ _ whole))))
+    rw (e, cond-false (outside third.most n p k || not (eqb (length m) n)) s (after n s m whole) (or_from _ _ inside (not_from_true _ (eq-eqb _ _ whole))))
     (moved n s m whole)

@@ -1,5 +1,6 @@
--- OneThirdRule.
-use Rattle.std.specs.Prelude.{ℕ, ◌*◌, ◌/◌, ◌%◌, ◌^◌, Bool, false, cond, not, ◌&&◌, ◌||◌, List, [], ◌∷◌, length, is_some, Some, None, fold, count_by, Option, ◌==◌, nat_le, nat_lt}
+-- OneThirdRule as functions.
+use Rattle.std.specs.Prelude.{ℕ, ◌*◌, ◌/◌, ◌%◌, ◌^◌, Bool, false, cond, not, ◌&&◌, ◌||◌, List, [], ◌∷◌, length, is_some, Some, None, fold, count_by}
+use Rattle.std.specs.Prelude.{Option, ◌==◌, nat_le, nat_lt}
 use Rattle.std.specs.Option.{option_or}
 use Rattle.rules.specs.Rule.{Behaviour, outside}
 use Rattle.third_rule.specs.declared.State.{State}
@@ -48,7 +49,9 @@ quorum_value n m = quorum_from n m m
 abbrev pub next_value : ℕ → ℕ → Mailbox → ℕ
 next_value n v m = cond (nat_lt (2 * n) (3 * heard m)) (most_frequent m v) v
 
--- a hull that is shown stays
+-- n stations, a station p, a round k, an opening value v, a state s, a receiver q, a mailbox m, a letter l, a packed number w.
+-- Every station writes its value to every station, itself too, in every round. A hull that is shown stays. A packed letter
+-- has its value in 16 bits, then 28 zero bits.
 abbrev pub third : Behaviour State Letter
 third = record {
   most = 16;

@@ -17,7 +17,8 @@ loop-sender-preserved c =
           let best = goes m c.args.own i w.in-Some.l _ _ _ so_far.0 so_far.1 here (search rules) w.count_of-count.ensures.value (search rules) (search rules) in
           grind (arith, best.0, best.1, so_far)
       | in-Some+then-l-best+else-goes_before w ↦
-          let best = stays m c.args.own i w.in-Some.l _ _ _ so_far.0 so_far.1 here (search rules) w.count_of-count.ensures.value (search rules) (search rules) in
+          let best = stays m c.args.own i w.in-Some.l _ _ _ so_far.0 so_far.1 here (search rules) w.count_of-count.ensures.value (search rules)
+          (search rules) in
           grind (arith, best, so_far)
       | in-Some+else-l-best w ↦ grind (arith, more)
       | in_default w ↦ grind (arith, more)
