@@ -7,7 +7,7 @@ use Rattle.frames.specs.Book.{pack_entry}
 use Rattle.frames.specs.Pool.{take_out}
 use Rattle.protocol.specs.Calls.{step, after, refusals}
 use Rattle.protocol.specs.Tally.{tally, tally_accepted}
-use Rattle.worked_examples.specs.Rules.{ThirdExamples, LastExamples}
+use Rattle.worked_examples.specs.Rules.{ThirdExamples, LastExamples, LastRuns}
 use Rattle.worked_examples.specs.Words.{WordExamples}
 use Rattle.worked_examples.specs.Calls.{begin, run, RunExample, FateExamples, RefusalExamples, CallExamples}
 use Rattle.schedule_text.specs.Reading.{pieces, read_lines, read_text}
@@ -21,6 +21,10 @@ third_rounds = record { rounds = refl; any_two_of_three = any_two_of_three }
 
 pub last_rounds : LastExamples
 last_rounds = record { rounds = refl; any_two_of_four = λ s m whole two. rw (whole, two) refl; any_three_of_four = any_three_of_four; stamps = refl }
+
+pub last_runs : LastRuns
+unfolding lockstep
+last_runs = record { first_phase = refl; stamp_found = refl; free_again = refl }
 
 pub words : WordExamples
 unfolding pack_frame read_frame pack_entry

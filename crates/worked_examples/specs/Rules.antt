@@ -1,5 +1,6 @@
 -- Worked examples of the two rules.
-use Rattle.std.specs.Prelude.{◌≡◌, ℕ, ◌+◌, ◌*◌, ◌^◌, true, false, List, [], ◌∷◌, length, Some, None, Option}
+use Rattle.std.specs.Prelude.{◌≡◌, ℕ, ◌+◌, ◌*◌, ◌^◌, true, false, cond, not, ◌==◌, List, [], ◌∷◌, length, Some, None, Option}
+use Rattle.rules.specs.Rule.{Heard, lockstep}
 use Rattle.third_rule.specs.declared.State.{State as ThirdState}
 use Rattle.third_rule.specs.declared.Letter.{Letter as ThirdLetter}
 use Rattle.third_rule.specs.Third.{third, heard as third_heard}
@@ -58,3 +59,30 @@ pub record LastExamples : Type 0 where
   pub any_two_of_four : (s : LastState) (m : List (Option LastLetter)) → length m ≡ 4 → last_heard m ≡ 2 → last.next 4 0 0 s m ≡ s
   pub any_three_of_four : (s : LastState) (m : List (Option LastLetter)) → length m ≡ 4 → last_heard m ≡ 3 → (last.next 4 0 0 s m).committed ≡ true
   pub stamps : last.unpack (300 * 2 ^ 28 + 1024 * 2 ^ 17) ∷ last.unpack (300 * 2 ^ 28 + 1025 * 2 ^ 17) ∷ [] ≡ unpacked
+
+-- ---- LastVoting: lockstep runs of three stations that open with 5, 7 and 9
+abbrev pub opening_values : List ℕ
+opening_values = 5 ∷ 7 ∷ 9 ∷ []
+
+-- all hear all
+abbrev pub all_heard : Heard
+all_heard p k q = true
+
+-- all hear all in round 0, and in round 1 station 1 alone hears the others; from then on nobody hears station 0
+abbrev pub one_adopts : Heard
+one_adopts p k q = cond (k == 0) true (cond (k == 1) (p == 1) (not (q == 0)))
+
+-- all hear all in round 0, and from then on nobody hears station 0
+abbrev pub none_adopts : Heard
+none_adopts p k q = cond (k == 0) true (not (q == 0))
+
+abbrev pub shows : Heard → (rounds station : ℕ) → Option ℕ
+shows H k p = last.hull (lockstep last opening_values H k p)
+
+pub record LastRuns : Type 0 where
+  -- a phase that nothing disturbs ends with its coordinator's vote, the lowest sender's of equal stamps
+  pub first_phase : shows all_heard 3 2 ∷ shows all_heard 4 2 ∷ [] ≡ None ∷ Some 5 ∷ []
+  -- of a phase that shows no hull one station took the vote: the next coordinator finds that by its stamp
+  pub stamp_found : shows one_adopts 4 1 ∷ shows one_adopts 8 2 ∷ [] ≡ None ∷ Some 5 ∷ []
+  -- nobody took it: the next coordinator hears 7 and 9, and votes for the lowest sender's
+  pub free_again : shows none_adopts 4 1 ∷ shows none_adopts 8 2 ∷ [] ≡ None ∷ Some 7 ∷ []

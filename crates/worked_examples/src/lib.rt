@@ -3,7 +3,7 @@
 #![tactic(auto)]
 
 ghost use Rattle.std.specs.Prelude.{◌≡◌, [], ◌∷◌, Some, map};
-ghost use Rattle.worked_examples.specs.Rules.{ThirdExamples, LastExamples, third_states, last_states, unpacked};
+ghost use Rattle.worked_examples.specs.Rules.{ThirdExamples, LastExamples, LastRuns, third_states, last_states, unpacked};
 ghost use Rattle.worked_examples.specs.Words.{WordExamples, words};
 ghost use Rattle.worked_examples.specs.Calls.{CallExamples, told, settled, book_words};
 ghost use Rattle.worked_examples.specs.Texts.{TextExamples, IsPlanned, two_steps_plan};
@@ -53,6 +53,7 @@ fn stamped(value: u16, stamp: u16) -> Option<last::Letter>
 pub fn last_rounds() -> [last::State; 3]
     ensures states { result ≡ last_states }
     ensures examples { LastExamples }
+    ensures runs { LastRuns }
 {
     let station = Last.first(4, 0, 5);
     let two = [stamped(5, 0), stamped(6, 0), None, None];
