@@ -132,11 +132,6 @@ impl<R: Rule> Bench<R> {
         };
         Reply::of(answer(&self.rule, &mut self.shed, &mut lent, values, q))
     }
-
-    /// How many stations show a hull.
-    pub fn hulls(&self) -> usize {
-        self.states[..self.shed.n].iter().filter(|state| self.rule.hull(**state).is_some()).count()
-    }
 }
 
 fn part(words: &mut [u64], length: usize) -> &mut [u64] {
