@@ -1,12 +1,13 @@
 -- A book's words by station and round name the same senders as the book.
-use Rattle.std.proofs.Common.{◌≡◌, ℕ, ◌+◌, ◌*◌, ◌/◌, ◌%◌, ◌^◌, ◌<◌, ◌≤◌, false, eqb, List, [], ◌∷◌, get_or, set, replicate, sym, refl, ap, ◌∙◌, inl, inr, arith, length-set, get_or-set_other, get_or-set_same}
+use Rattle.std.proofs.Common.{◌≡◌, ℕ, ◌+◌, ◌*◌, ◌/◌, ◌^◌, ◌<◌, ◌≤◌, eqb, List, [], ◌∷◌, get_or, set, replicate, sym, refl, ap, ◌∙◌, inl, inr, arith, length-set, get_or-set_other, get_or-set_same}
 use lib.ListN.{length-replicate}
 use Rattle.std.proofs.lemmas.Bool.{eq-eqb, ne_eqb, cases_eq, cond-true, cond-false}
 use Rattle.lists.specs.Lists.{tabulate}
 use Rattle.lists.proofs.Tables.{tabulate_same, get_or_replicate_all}
-use Rattle.frames.specs.Book.{senders_in, heard_set, heard_sets}
+use Rattle.stations.specs.Stations.{none}
+use Rattle.frames.specs.Book.{station_in, round_in, senders_in, heard_set, heard_sets}
 use Rattle.frames.specs.Index.{first_at, Indexes}
-use Rattle.frames.proofs.Sets.{set_named, other_station, other_round, set_empty, sets_passed, sets_empty}
+use Rattle.frames.proofs.Sets.{set_named, other_station, other_round, sets_passed, sets_empty}
 
 -- ---- the index
 -- no word is read: 0 stands at every place
@@ -24,16 +25,12 @@ indexed_more words ws w small index = record {
 }
 
 -- ---- whom it names
-no_word : senders_in 0 ≡ replicate 16 false
-unfolding senders_in
-no_word = refl
-
 -- the word at the place of p and k names whom the book names for both
 place_heard : (book : List ℕ) (p k : ℕ) → k < 4096 → senders_in (first_at book (p * 4096 + k)) ≡ heard_set book p k
-place_heard [] p k h = no_word ∙ sym (set_empty p k)
-place_heard (w ∷ ws) p k h = elim (cases_eq (w / 2 ^ 60) p) [
+place_heard [] p k h = refl
+place_heard (w ∷ ws) p k h = elim (cases_eq (station_in w) p) [
   | inr off ↦ ap senders_in (passed (λ e. off (omega arith))) ∙ (place_heard ws p k h ∙ sym (other_station w ws p k off))
-  | inl station ↦ elim (cases_eq ((w / 2 ^ 48) % 4096) k) [
+  | inl station ↦ elim (cases_eq (round_in w) k) [
     | inr off ↦ ap senders_in (passed (λ e. off (omega arith))) ∙ (place_heard ws p k h ∙ sym (other_round w ws p k off))
     | inl round ↦ ap senders_in (cond-true (eqb (w / 2 ^ 48) (p * 4096 + k)) w _ (eq-eqb _ _ (omega arith))) ∙ sym (set_named w ws p k station round)
   ]
@@ -43,11 +40,10 @@ place_heard (w ∷ ws) p k h = elim (cases_eq (w / 2 ^ 60) p) [
     passed apart = cond-false (eqb (w / 2 ^ 48) (p * 4096 + k)) w _ (ne_eqb _ _ apart)
 
 pub sets_indexed : (words book : List ℕ) (k : ℕ) → Indexes words book → k < 4096 → tabulate 16 (λ p. senders_in (get_or words (p * 4096 + k) 0)) ≡ heard_sets book k
-unfolding heard_sets
 sets_indexed words book k index h =
     tabulate_same 16 (λ p. senders_in (get_or words (p * 4096 + k) 0)) (λ p. heard_set book p k) (λ p _. ap senders_in (index.first (p * 4096 + k)) ∙ place_heard book p k h)
 
 -- no word is for a round past the last
-pub sets_past : (book : List ℕ) (k : ℕ) → 4096 ≤ k → heard_sets book k ≡ replicate 16 (replicate 16 false)
+pub sets_past : (book : List ℕ) (k : ℕ) → 4096 ≤ k → heard_sets book k ≡ replicate 16 none
 sets_past [] k h = sets_empty k
 sets_past (w ∷ ws) k h = sets_passed w ws k (λ e. omega arith) ∙ sets_past ws k h

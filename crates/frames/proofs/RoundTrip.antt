@@ -3,7 +3,7 @@ use Rattle.std.proofs.Common.{◌≡◌, ℕ, ◌+◌, ◌*◌, ◌/◌, ◌%◌
 use Rattle.std.proofs.lemmas.Bool.{lt-ltb, ltb-true, and_parts}
 use Rattle.rules.specs.Rule.{Behaviour, Laws}
 use Rattle.lists.proofs.Options.{none_some, same_some, only}
-use Rattle.frames.specs.Frame.{Frame, pack_frame, packed_frame, read_frame, framed, ReadsBack, PacksAgain}
+use Rattle.frames.specs.Frame.{Frame, frame_word, packed_frame, read_frame, framed, ReadsBack, PacksAgain}
 
 framed_from : {L : Type 0} (s r k : ℕ) (o : Option L) (f : Frame L) → framed s r k o ≡ Some f → (l : L) × (o ≡ Some l) × (f ≡ (s, r, k, l))
 framed_from s r k None f e = none_some e
@@ -30,8 +30,8 @@ read_below R n w f e =
 module _ {S L : Type 0} (R : Behaviour S L) {letter_fits : L → Bool} (laws : Laws R letter_fits) where
   pub reads_back :
       (n s r k : ℕ) (l : L) → r ≤ 15 → s < n → r < n → k ≤ 4095 → T (letter_fits l) →
-      read_frame R n (pack_frame R (s, r, k, l)) ≡ Some (s, r, k, l)
-  unfolding pack_frame read_frame
+      read_frame R n (frame_word R (s, r, k, l)) ≡ Some (s, r, k, l)
+  unfolding frame_word read_frame
   reads_back n s r k l few hs hr hk fits =
       let small = laws.codec.small l fits in
       let back = laws.codec.back l fits in
@@ -44,8 +44,8 @@ module _ {S L : Type 0} (R : Behaviour S L) {letter_fits : L → Bool} (laws : L
 
   pub packed_reads_back : (f : Frame L) (word : Option ℕ) → word ≡ packed_frame R f → ReadsBack R letter_fits f word
   packed_reads_back f word is n w e hs hr fits =
-      let there = only (ltb f.0 16 && ltb f.1 16 && ltb f.2 4096) (Some (pack_frame R f)) w (cc) in
-      let same : pack_frame R f ≡ w = same_some there.1 in
+      let there = only (ltb f.0 16 && ltb f.1 16 && ltb f.2 4096) (Some (frame_word R f)) w (cc) in
+      let same : frame_word R f ≡ w = same_some there.1 in
       let tests = and_parts (ltb f.0 16 && ltb f.1 16) (ltb f.2 4096) there.0 in
       let stations = and_parts (ltb f.0 16) (ltb f.1 16) tests.0 in
       rw (← same) (reads_back n f.0 f.1 f.2 f.3 (omega (arith, ltb-true f.1 16 stations.1)) hs hr (omega (arith, ltb-true f.2 4096 tests.1)) fits)
@@ -55,7 +55,7 @@ module _ {S L : Type 0} (R : Behaviour S L) {letter_fits : L → Bool} (laws : L
   whole w = omega arith
 
   pub read_packs_again : (n w : ℕ) (read : Option (Frame L)) → w < 2 ^ 64 → read ≡ read_frame R n w → PacksAgain R n w read
-  unfolding pack_frame
+  unfolding frame_word
   read_packs_again n w read small is f e =
       let p = read_from R n w f (cc) in
       let below = read_below R n w f (cc) in

@@ -1,18 +1,20 @@
 -- A frame: how a letter travels as one word of 64 bits.
 use Rattle.std.specs.Prelude.{◌≡◌, ℕ, ◌+◌, ◌*◌, ◌/◌, ◌%◌, ◌^◌, ◌<◌, Bool, cond, ◌&&◌, T, is_some, Some, None, Option, nat_lt}
+use Rattle.stations.specs.declared.TheConstants.{STATIONS}
 use Rattle.rules.specs.Rule.{Behaviour}
+use Rattle.frames.specs.declared.TheConstants.{ROUNDS}
 
 -- a frame: its sender, its receiver, its round and its letter
 abbrev pub Frame : Type 0 → Type 0
 Frame L = ℕ × ℕ × ℕ × L
 
 -- sender 4 bits, receiver 4, round 12, packed letter 44, the most significant first
-unfoldable pub pack_frame : {S L : Type 0} → Behaviour S L → Frame L → ℕ
-pack_frame R f = ((f.0 * 16 + f.1) * 4096 + f.2) * 2 ^ 44 + R.pack f.3
+unfoldable pub frame_word : {S L : Type 0} → Behaviour S L → Frame L → ℕ
+frame_word R f = ((f.0 * STATIONS + f.1) * ROUNDS + f.2) * 2 ^ 44 + R.pack f.3
 
 -- the word of a frame, or none where a number is too large for its bits
 abbrev pub packed_frame : {S L : Type 0} → Behaviour S L → Frame L → Option ℕ
-packed_frame R f = cond (nat_lt f.0 16 && nat_lt f.1 16 && nat_lt f.2 4096) (Some (pack_frame R f)) None
+packed_frame R f = cond (nat_lt f.0 STATIONS && nat_lt f.1 STATIONS && nat_lt f.2 ROUNDS) (Some (frame_word R f)) None
 
 abbrev pub framed : {L : Type 0} → ℕ → ℕ → ℕ → Option L → Option (Frame L)
 framed s r k None = None
@@ -21,13 +23,13 @@ framed s r k (Some l) = Some (s, r, k, l)
 -- the frame that a word holds: both stations below n, and a packed letter
 unfoldable pub read_frame : {S L : Type 0} → Behaviour S L → ℕ → ℕ → Option (Frame L)
 read_frame R n w =
-    cond (nat_lt (w / 2 ^ 60) n && nat_lt ((w / 2 ^ 56) % 16) n)
-    (framed (w / 2 ^ 60) ((w / 2 ^ 56) % 16) ((w / 2 ^ 44) % 4096) (R.unpack (w % 2 ^ 44)))
+    cond (nat_lt (w / 2 ^ 60) n && nat_lt ((w / 2 ^ 56) % STATIONS) n)
+    (framed (w / 2 ^ 60) ((w / 2 ^ 56) % STATIONS) ((w / 2 ^ 44) % ROUNDS) (R.unpack (w % 2 ^ 44)))
     None
 
 -- a word is readable exactly when both its stations are below n and the rest unpacks
 abbrev pub readable : {S L : Type 0} → Behaviour S L → ℕ → ℕ → Bool
-readable R n w = nat_lt (w / 2 ^ 60) n && nat_lt ((w / 2 ^ 56) % 16) n && is_some (R.unpack (w % 2 ^ 44))
+readable R n w = nat_lt (w / 2 ^ 60) n && nat_lt ((w / 2 ^ 56) % STATIONS) n && is_some (R.unpack (w % 2 ^ 44))
 
 -- a frame survives its word: where both stations are below n and the letter is within its ranges, the word reads as it
 abbrev pub ReadsBack : {S L : Type 0} → Behaviour S L → (letter_fits : L → Bool) → Frame L → Option ℕ → Type 0

@@ -2,8 +2,9 @@
 ghost use Rattle.std.specs.Prelude.{◌≡◌, ◌<◌, is_some, IfSome};
 ghost use Rattle.frames.specs.Frame.{packed_frame, read_frame, readable, ReadsBack, PacksAgain};
 
-use crate::{ROUNDS, STATIONS};
+use crate::ROUNDS;
 use rules::Rule;
+use stations::STATIONS;
 
 // The word of a frame, most significant bits first: sender 4, receiver 4, round 12, packed letter 44.
 // None if the sender, the receiver or the round is too large for its bits. A word reads back as its frame among any
@@ -21,8 +22,8 @@ pub fn pack_frame<R: Rule>(
     if sender >= STATIONS || receiver >= STATIONS || round >= ROUNDS {
         return None;
     }
-    let address = (sender * 16 + receiver) as u64;
-    let head = address * 4096 + u64::from(round);
+    let address = (sender * STATIONS + receiver) as u64;
+    let head = address * u64::from(ROUNDS) + u64::from(round);
     Some(head * (1 << 44) + rule.pack(letter))
 }
 
@@ -37,8 +38,8 @@ pub fn read_frame<R: Rule>(rule: &R, n: usize, word: u64) -> Option<(usize, usiz
     ensures packs_again { PacksAgain (R.Rule.behaviour rule.now) n word result }
 {
     let sender = (word >> 60) as usize;
-    let receiver = (word >> 56) as usize % 16;
-    let round = ((word >> 44) % 4096) as u16;
+    let receiver = (word >> 56) as usize % STATIONS;
+    let round = ((word >> 44) % u64::from(ROUNDS)) as u16;
     if sender >= n || receiver >= n {
         return None;
     }

@@ -5,10 +5,11 @@ ghost use Rattle.frames.specs.Index.{Indexes};
 
 use crate::ROUNDS;
 use crate::book::senders_in;
+use stations::{STATIONS, StationSet};
 use std::array;
 
-// A word for each of 16 stations in each of 4,096 rounds.
-const PLACES: usize = 65536;
+// A word for each station in each round.
+const PLACES: usize = STATIONS * ROUNDS as usize;
 
 // The first word of a book for each station and round, at the place that its upper 16 bits name; 0 where there is none.
 // A fixed table, 512 KiB by value, and no map: recounting may want no memory from the heap.
@@ -30,12 +31,14 @@ impl Index {
     }
 
     // Whom the words of the book name for each station in a round.
-    pub fn heard_in_round(&self, round: u16) -> [[bool; 16]; 16]
+    pub fn heard_in_round(&self, round: u16) -> [StationSet; STATIONS]
         ensures { (book : List ℕ) → Indexes self.now.words book → result ≡ heard_sets book round }
     {
         if round >= ROUNDS {
-            return [[false; 16]; 16];
+            return [StationSet::empty(); STATIONS];
         }
-        array::from_fn(|station| self.words[station * 4096 + usize::from(round)]).map(senders_in)
+        array::from_fn(|station| senders_in(
+            self.words[station * usize::from(ROUNDS) + usize::from(round)],
+        ))
     }
 }

@@ -4,6 +4,7 @@ use protocol::refusal::Refusal;
 use recount::recount;
 use recount::round::lockstep_round;
 use rules::{Rule, count_letters, is_outside};
+use stations::{STATIONS, StationSet};
 use std::array;
 use third::Third;
 
@@ -80,7 +81,8 @@ fn last_voting(rt: HostRuntime) {
 fn one_third_rule(rt: HostRuntime) {
     let states = [Third.first(3, 0, 7); 3];
     let mut next = states;
-    let answer = lockstep_round(&Third, 3, 0, &[[true; 16]; 16], &states, &mut next);
+    let heard = [StationSet::from_bits(0xE000); STATIONS];
+    let answer = lockstep_round(&Third, 3, 0, &heard, &states, &mut next);
     assert_eq!(rt; answer, Ok(1));
     assert_eq!(rt; next.map(|state| Third.hull(&state)), [Some(7); 3]);
     assert!(rt; !is_outside(16, 3, 2, 4095));

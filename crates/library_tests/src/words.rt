@@ -33,7 +33,7 @@ fn entries_in_words(rt: HostRuntime) {
     let (station, round, heard) = read_entry(words[0]);
     assert_eq!(rt; (station, round), (1, 1));
     assert_eq!(rt;
-        pack_entry(station, round, &heard),
+        pack_entry(station, round, heard),
         Some(0x1001_4001_0000_0000)
     );
     assert_eq!(rt; senders(&words, 1, 1), heard);

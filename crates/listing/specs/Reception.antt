@@ -1,10 +1,7 @@
 -- How well a station was reached: the letters that it heard among those due in its turns, counted from the book's entries.
-use Rattle.std.specs.Prelude.{ℕ, ◌+◌, ◌*◌, ◌/◌, Bool, cond, List, [], ◌∷◌, count_by, ◌==◌}
+use Rattle.std.specs.Prelude.{ℕ, ◌+◌, ◌*◌, ◌/◌, Bool, cond, List, [], ◌∷◌, ◌==◌}
+use Rattle.stations.specs.Stations.{size}
 use Rattle.frames.specs.Book.{read_entry}
-
--- how many stations a heard set has
-abbrev pub size : List Bool → ℕ
-size heard = count_by (λ b. b) heard
 
 -- whether an entry is the station's, and how many letters were heard in its round
 abbrev pub is_of : ℕ → ℕ → Bool

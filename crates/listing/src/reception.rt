@@ -1,5 +1,6 @@
 // How well a station was reached, counted from the book.
 ghost use Rattle.std.specs.Prelude.{◌≡◌, ◌*◌, ◌<◌, ◌≤◌, length};
+ghost use Rattle.stations.specs.declared.TheConstants.{STATIONS};
 ghost use Rattle.protocol.specs.declared.TheConstants.{MAX_BOOK};
 ghost use Rattle.listing.specs.Reception.{letters_in, turns_in_book, letters_heard, rounded, reception_of};
 
@@ -9,23 +10,17 @@ use frames::book::read_entry;
 #[inline(never)]
 fn letters_in(word: u64) -> usize
     ensures is { result ≡ letters_in word }
-    ensures few { result ≤ 16 }
+    ensures few { result ≤ STATIONS }
 {
     let (_, _, heard) = read_entry(word);
-    let mut letters = 0;
-    for in_set in &heard {
-        if *in_set {
-            letters += 1;
-        }
-    }
-    letters
+    heard.len()
 }
 
 // The station's turns in the book, and the letters that it heard in them.
 fn count_turns(station: usize, book: &[u64]) -> (usize, usize)
     ensures turns { result.0 ≡ turns_in_book station book.now }
     ensures heard { result.1 ≡ letters_heard station book.now }
-    ensures few { (result.0 ≤ length book.now) × (result.1 ≤ 16 * result.0) }
+    ensures few { (result.0 ≤ length book.now) × (result.1 ≤ STATIONS * result.0) }
 {
     let mut turns = 0;
     let mut letters = 0;
@@ -48,7 +43,7 @@ fn quotient(part: usize, whole: usize) -> usize
 
 // What part of the letters due in its turns the station heard, of n stations: in hundredths, and 0 without turns.
 pub(crate) fn reception(n: usize, station: usize, book: &[u64]) -> usize
-    requires { (0 < n) × ((n ≤ 16) × (length book.now ≤ MAX_BOOK)) }
+    requires { (0 < n) × ((n ≤ STATIONS) × (length book.now ≤ MAX_BOOK)) }
     ensures is { result ≡ reception_of n station book.now }
     ensures few { result ≤ 1600 }
 {

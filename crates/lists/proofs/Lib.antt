@@ -3,3 +3,4 @@ pub mod Tables
 pub mod Counting
 pub mod Places
 pub mod Results
+pub mod Made

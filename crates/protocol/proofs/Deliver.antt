@@ -2,8 +2,9 @@
 use Rattle.std.proofs.Common.{◌≡◌, ℕ, ◌^◌, ◌<◌, ◌≤◌, Bool, true, false, not, ◌&&◌, ◌||◌, T, eqb, ltb, List, length, get_or, set, Some, sym, refl, ◌∙◌, subst, inl, inr, arith}
 use mathlib.Core.Path.{fun_ext}
 use Rattle.std.specs.Result.{result_err}
-use Rattle.std.proofs.lemmas.List.{length-set, get_or-set_same, get_or-set_other}
 use Rattle.std.proofs.lemmas.Bool.{leb-false, cases_eq, ltb-false, eqb-true, eq-eqb, ne_eqb, le-ltb, false≢true, and_parts, not-true, or_left, or_right, and_from}
+use Rattle.stations.specs.Stations.{contains}
+use Rattle.stations.proofs.Members.{within_more, contains_new, contains_old}
 use Rattle.rules.specs.Rule.{Behaviour, Laws, Ranges, lockstep}
 use Rattle.frames.specs.Frame.{Frame}
 use Rattle.protocol.specs.declared.types.StationRecord.{StationRecord}
@@ -75,7 +76,7 @@ module _ {S L : Type 0} (R : Behaviour S L) (values : List ℕ) (B : ℕ) (w : W
   late : s.round < old.round → Inv R values B (received R w f Late) (noted t s)
   late h = same_notes (λ p r q. absorbed _ _ (λ e. absurd (omega (arith, (said t s p r q e).3, (i.seats s.receiver to).round))))
 
-  again : Taking old → s.round ≡ old.round → get_or old.heard s.sender false ≡ true → Inv R values B (received R w f Again) (noted t s)
+  again : Taking old → s.round ≡ old.round → contains old.heard s.sender ≡ true → Inv R values B (received R w f Again) (noted t s)
   again taking h e = same_notes (λ p r q. absorbed _ _ (λ m.
       let k = said t s p r q m in
       let at : Seated R values w t s.receiver = i.seats s.receiver to in
@@ -101,27 +102,27 @@ module _ {S L : Type 0} (R : Behaviour S L) (values : List ℕ) (B : ℕ) (w : W
       let x : ℕ = s.sender in
       let now : s.round ≡ t.rounds s.receiver = h ∙ at.round in
       let hx : x < row_cells w.n = omega (arith, b.sender) in
-      let inside : x < length old.heard = omega (arith, b.sender, a.places, few) in
+      let inside : x < 16 = omega (arith, b.sender, few) in
       station_changed R values B w t i s.receiver (hearing old x)
       (set w.letters (letter_cell w.n s.receiver x) l) (noting t s) to notes_apart (λ p q e hq. cell_kept w.letters w.n s.receiver x l hx p q hq (λ z _. e z)) (record {
         round = at.round;
         limit = at.limit;
         state = at.state;
         live = λ _. record {
-          places = length-set old.heard x true ∙ a.places;
+          within = within_more old.heard x inside a.within;
           noted = λ r q g. elim (cases_eq q x) [
             | inl eq ↦ elim (cases_eq r (t.rounds s.receiver)) [
               | inl er ↦ rw (eq, er) (or_right _ _ (says t s s.receiver (t.rounds s.receiver) x refl now refl (omega (arith, now)))
-                  ∙ sym (or_left _ _ (and_from _ _ (eq-eqb (t.rounds s.receiver) (t.rounds s.receiver) refl) (get_or-set_same old.heard x true false inside))))
+                  ∙ sym (or_left _ _ (and_from _ _ (eq-eqb (t.rounds s.receiver) (t.rounds s.receiver) refl) (contains_new old.heard x inside))))
               | inr er ↦ absorbed _ _ (λ m. absurd (er (sym (said t s s.receiver r q m).1 ∙ now))) ∙ a.noted r q g
                   ∙ rw (ne_eqb r (t.rounds s.receiver) er)
             ]
-            | inr eq ↦ absorbed _ _ (λ m. absurd (eq (sym (said t s s.receiver r q m).2))) ∙ a.noted r q g ∙ rw (get_or-set_other old.heard x q true false eq)
+            | inr eq ↦ absorbed _ _ (λ m. absurd (eq (sym (said t s s.receiver r q m).2))) ∙ a.noted r q g ∙ rw (contains_old old.heard x inside q eq)
           ];
           marked = λ q m. elim (cases_eq q x) [
             | inl eq ↦ rw (eq, cell_written w.letters w.n s.receiver x l hx letters here, ← now) b
             | inr eq ↦
-                let c = a.marked q (sym (get_or-set_other old.heard x q true false eq) ∙ m) in
+                let c = a.marked q (sym (contains_old old.heard x inside q eq) ∙ m) in
                 rw (cell_kept w.letters w.n s.receiver x l hx s.receiver q (omega (arith, c.sender)) (λ _ z. eq z)) c
           ];
           holding = λ x y. absurd (none_some (sym taking.free ∙ y));
@@ -143,9 +144,9 @@ module _ {S L : Type 0} (R : Behaviour S L) (values : List ℕ) (B : ℕ) (w : W
         limit = at.limit;
         state = at.state;
         live = λ _. record {
-          places = a.places;
+          within = a.within;
           noted = λ r q g. rw (a.noted r q g, taking.free, eq-eqb s.receiver s.receiver refl, le-ltb s.round (t.rounds s.receiver) (omega arith))
-              (early_note (eqb r (t.rounds s.receiver) && get_or old.heard q false) (eqb s.round r) (eqb s.sender q));
+              (early_note (eqb r (t.rounds s.receiver) && contains old.heard q) (eqb s.round r) (eqb s.sender q));
           marked = λ q m. let c = a.marked q m in rw (cell_kept w.letters w.n s.receiver w.n l (omega arith) s.receiver q (omega (arith, c.sender)) (λ _ z. absurd (omega (arith, c.sender)))) c;
           holding = λ x y. rw (← same_some y, cell_written w.letters w.n s.receiver w.n l (omega arith) letters here) b;
           ahead = λ x y. rw (← same_some y) (omega arith);

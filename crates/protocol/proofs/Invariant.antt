@@ -3,8 +3,9 @@ use Rattle.std.proofs.Common.{◌≡◌, ℕ, ◌-◌, ◌<◌, ◌≤◌, Bool,
 use Rattle.std.specs.Result.{result_err}
 use Rattle.std.specs.List.{slice_get}
 use Rattle.std.proofs.lemmas.Bool.{or_parts, ltb-false, eqb-true, not-false}
+use Rattle.stations.specs.Stations.{contains, Within}
 use Rattle.rules.specs.Rule.{Behaviour, Heard, lockstep}
-use Rattle.frames.specs.Frame.{pack_frame}
+use Rattle.frames.specs.Frame.{frame_word}
 use Rattle.protocol.specs.declared.types.Held.{Held}
 use Rattle.protocol.specs.declared.types.StationRecord.{StationRecord}
 use Rattle.protocol.specs.declared.refusal.Refusal.{Refusal}
@@ -40,19 +41,19 @@ module _ {S L : Type 0} (R : Behaviour S L) (values : List ℕ) where
   -- a word of the pool and its slip
   pub record Carry (H : Heard) (rounds : ℕ → ℕ) (word : ℕ) (s : Slip) : Type 0 where
     pub letter : L
-    pub word_is : word ≡ pack_frame R ((s.sender, s.receiver, s.round, letter))
+    pub word_is : word ≡ frame_word R ((s.sender, s.receiver, s.round, letter))
     pub to : s.receiver < length values
     pub brought : Brought H rounds (Some letter) s.sender s.round s.receiver
 
   -- a station that is not down: its notes, the letters in its row, and its held letter
   pub record Live (H : Heard) (rounds : ℕ → ℕ) (notes : ℕ → ℕ → Bool) (s : StationRecord) (n : ℕ) (letters : List L) (p : ℕ) : Type 0 where
-    pub places : length s.heard ≡ 16
-    pub noted : (r q : ℕ) → rounds p ≤ r → notes r q ≡ ((eqb r (rounds p) && get_or s.heard q false) || held s.hold r q)
-    pub marked : (q : ℕ) → get_or s.heard q false ≡ true → Brought H rounds (slice_get letters (letter_cell n p q)) q (rounds p) p
+    pub within : Within s.heard
+    pub noted : (r q : ℕ) → rounds p ≤ r → notes r q ≡ ((eqb r (rounds p) && contains s.heard q) || held s.hold r q)
+    pub marked : (q : ℕ) → contains s.heard q ≡ true → Brought H rounds (slice_get letters (letter_cell n p q)) q (rounds p) p
     pub holding : (h : Held) → s.hold ≡ Some h → Brought H rounds (slice_get letters (held_cell n p)) h.sender h.round p
     pub ahead : (h : Held) → s.hold ≡ Some h → rounds p ≤ h.round
     pub later : is_fresh s.stand ≡ false → (h : Held) → s.hold ≡ Some h → rounds p < h.round
-    pub silent : is_fresh s.stand ≡ true → (q : ℕ) → get_or s.heard q false ≡ false
+    pub silent : is_fresh s.stand ≡ true → (q : ℕ) → contains s.heard q ≡ false
 
   pub record Seat (H : Heard) (rounds : ℕ → ℕ) (notes : ℕ → ℕ → Bool) (s : StationRecord) (x : S) (n : ℕ) (letters : List L) (p : ℕ) : Type 0 where
     pub round : s.round ≡ rounds p
@@ -110,7 +111,7 @@ module _ {S L : Type 0} (R : Behaviour S L) (values : List ℕ) where
       limit = rw same seat.limit;
       state = rw same (seat.state ∙ sym (g (rounds p) p (omega arith)).1);
       live = λ up. let a : Live H rounds notes s n letters p = seat.live up in record {
-        places = a.places;
+        within = a.within;
         noted = λ r q h. noted r q ∙ rw same (a.noted r q (rw same at h));
         marked = λ q m. let b = a.marked q m in rw (el q (omega (arith, b.sender, n_is)), same) (brought_kept (slice_get letters (letter_cell n p q)) q (rounds p) p b);
         holding = λ h e. rw (el n (omega arith)) (brought_kept (slice_get letters (held_cell n p)) h.sender h.round p (a.holding h e));

@@ -1,6 +1,7 @@
 -- What each fate tells of the station that judged it so.
-use Rattle.std.proofs.Common.{◌≡◌, ℕ, ◌<◌, Bool, true, false, cond, get_or, ltb, Some, None, Ok, Err, Option, Result, refl, subst, arith}
+use Rattle.std.proofs.Common.{◌≡◌, ℕ, ◌<◌, Bool, true, false, cond, ltb, Some, None, Ok, Err, Option, Result, refl, subst, arith}
 use Rattle.std.proofs.lemmas.Bool.{ltb-true, ltb-false, true≢false}
+use Rattle.stations.specs.Stations.{contains}
 use Rattle.protocol.specs.declared.types.Held.{Held}
 use Rattle.protocol.specs.declared.types.StationRecord.{StationRecord}
 use Rattle.protocol.specs.declared.types.Fate.{Fate}
@@ -30,7 +31,7 @@ pub record Taking (s : StationRecord) : Type 0 where
 -- of the station s and a frame of round k from q, by the frame's fate
 abbrev pub Judged : StationRecord → (q k : ℕ) → Fate → Type 0
 Judged s q k Late = k < s.round
-Judged s q k Again = Taking s × (k ≡ s.round) × (get_or s.heard q false ≡ true)
+Judged s q k Again = Taking s × (k ≡ s.round) × (contains s.heard q ≡ true)
 Judged s q k Taken = Taking s × (k ≡ s.round)
 Judged s q k Early = Taking s × (s.round < k)
 
@@ -43,4 +44,4 @@ judged_so s q k x e =
     fate_by (Judged s q k) (ltb k s.round) Late _ x c.1 (λ late. ltb-true k s.round late) (λ not_late d.
     fate_by (Judged s q k) (ltb s.round k) Early _ x d (λ early. (taking, ltb-true s.round k early)) (λ not_early f.
     let now : k ≡ s.round = omega (arith, ltb-false k s.round not_late, ltb-false s.round k not_early) in
-    fate_by (Judged s q k) (get_or s.heard q false) Again _ x f (λ heard. (taking, now, heard)) (λ _ g. subst (Judged s q k) (let same : Taken ≡ x = cc in same) (taking, now))))
+    fate_by (Judged s q k) (contains s.heard q) Again _ x f (λ heard. (taking, now, heard)) (λ _ g. subst (Judged s q k) (let same : Taken ≡ x = cc in same) (taking, now))))

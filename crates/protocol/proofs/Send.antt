@@ -1,10 +1,13 @@
 -- An accepted send keeps the invariant: its frames are the tally's slips, and a held letter of the station's round is taken in.
-use Rattle.std.proofs.Common.{◌≡◌, ℕ, zero, suc, ◌+◌, ◌-◌, ◌<◌, ◌≤◌, Bool, true, false, ◌&&◌, ◌||◌, eqb, ltb, List, ◌∷◌, ◌++◌, length, get_or, set, Some, None, Option, sym, refl, ap, ◌∙◌, subst, inl, inr, arith}
-use Rattle.std.proofs.lemmas.List.{length-set, length-append, get_or_append_left, get_or-append_right, get_or-set_same, get_or-set_other}
+use Rattle.std.proofs.Common.{◌≡◌, ℕ, zero, suc, ◌+◌, ◌-◌, ◌<◌, ◌≤◌, true, false, ◌&&◌, ◌||◌, eqb, ltb, List, ◌∷◌, ◌++◌, length, get_or, set, Some, None, Option, sym, refl, ap, ◌∙◌, subst, inl, inr, arith}
+use Rattle.std.proofs.lemmas.List.{length-append, get_or_append_left, get_or-append_right}
 use Rattle.std.proofs.lemmas.Bool.{cases_eq, cases_lt, leb-false, ltb-false, eq-eqb, ne_eqb, true≢false, false≢true, and_right}
+use Rattle.stations.specs.declared.StationSet.{StationSet}
+use Rattle.stations.specs.Stations.{contains, with_station}
+use Rattle.stations.proofs.Members.{within_more, contains_new, contains_old}
 use Rattle.rules.specs.Rule.{Behaviour, lockstep}
 use Rattle.lists.specs.Lists.{put}
-use Rattle.frames.specs.Frame.{pack_frame}
+use Rattle.frames.specs.Frame.{frame_word}
 use Rattle.protocol.specs.declared.types.Held.{Held}
 use Rattle.protocol.specs.declared.types.StationRecord.{StationRecord}
 use Rattle.protocol.specs.declared.types.Stand.{Stand}
@@ -54,7 +57,7 @@ module _ {S L : Type 0} (R : Behaviour S L) (values : List ℕ) (B : ℕ) (w : W
   letters_same q = let n_is = i.n_is in let round = (i.seats p h).round in let state = (i.seats p h).state in cc
 
   abbrev words_with : ℕ → List ℕ → Option L → List ℕ
-  words_with q ws o = elim o [ None ↦ ws | Some l ↦ pack_frame R ((p, q, (station w p).round, l)) ∷ ws ]
+  words_with q ws o = elim o [ None ↦ ws | Some l ↦ frame_word R ((p, q, (station w p).round, l)) ∷ ws ]
 
   abbrev slips_with : ℕ → List Slip → Option L → List Slip
   slips_with q ss o = elim o [ None ↦ ss | Some l ↦ record { sender = p; receiver = q; round = t.rounds p } ∷ ss ]
@@ -106,14 +109,14 @@ module _ {S L : Type 0} (R : Behaviour S L) (values : List ℕ) (B : ℕ) (w : W
       ])
 
 -- ---- a fresh station begins to listen
-same_note : (x r k q s : ℕ) → x ≡ k → (hs : List Bool) → s < length hs → ((q : ℕ) → get_or hs q false ≡ false) →
-    ((eqb r k && get_or hs q false) || (eqb x r && eqb s q)) ≡ ((eqb r k && get_or (set hs s true) q false) || false)
-same_note x r k q s e hs h silent = elim (cases_eq q s) [
+same_note : (x r k q s : ℕ) → x ≡ k → (heard : StationSet) → s < 16 → ((q : ℕ) → contains heard q ≡ false) →
+    ((eqb r k && contains heard q) || (eqb x r && eqb s q)) ≡ ((eqb r k && contains (with_station heard s) q) || false)
+same_note x r k q s e heard h silent = elim (cases_eq q s) [
   | inl eq ↦ elim (cases_eq r k) [
-    | inl er ↦ rw (e, er, eq, silent s, get_or-set_same hs s true false h, eq-eqb k k refl, eq-eqb s s refl)
+    | inl er ↦ rw (e, er, eq, silent s, contains_new heard s h, eq-eqb k k refl, eq-eqb s s refl)
     | inr er ↦ rw (e, ne_eqb r k er, ne_eqb k r (λ z. er (sym z)))
   ]
-  | inr eq ↦ rw (silent q, get_or-set_other hs s q true false eq, silent q, ne_eqb s q (λ z. eq (sym z))) (ap (λ y. (eqb r k && false) || y) (and_right (eqb x r) false refl))
+  | inr eq ↦ rw (silent q, contains_old heard s h q eq, silent q, ne_eqb s q (λ z. eq (sym z))) (ap (λ y. (eqb r k && false) || y) (and_right (eqb x r) false refl))
 ]
 
 module _ {S L : Type 0} (R : Behaviour S L) (values : List ℕ) (few : length values ≤ 16) (B : ℕ) (w : World S L) (t : Tally) (i : Inv R values B w t) (letters : letter_cells w.n ≤ length w.letters)
@@ -137,7 +140,7 @@ module _ {S L : Type 0} (R : Behaviour S L) (values : List ℕ) (few : length va
         limit = at.limit;
         state = at.state;
         live = λ _. record {
-          places = a.places;
+          within = a.within;
           noted = a.noted;
           marked = a.marked;
           holding = a.holding;
@@ -154,24 +157,24 @@ module _ {S L : Type 0} (R : Behaviour S L) (values : List ℕ) (few : length va
       let n_is : w.n ≡ length values = i.n_is in
       let b = a.holding x e in
       let hx : x.sender < row_cells w.n = omega (arith, b.sender) in
-      let inside : x.sender < length old.heard = omega (arith, b.sender, a.places) in
+      let inside : x.sender < 16 = omega (arith, b.sender, few) in
       let l = something_at w.letters (held_cell w.n p) (omega (arith, letters, cell_within w.n p w.n (omega arith) (omega arith))) in
       let c : ℕ = letter_cell w.n p x.sender in
       subst (λ o. Inv R values B (with_letters R
-      (with_stations R w (set w.stations p (record old { stand = Listening; heard = set old.heard x.sender true; hold = None })))
+      (with_stations R w (set w.stations p (record old { stand = Listening; heard = with_station old.heard x.sender; hold = None })))
       (elim o [ None ↦ w.letters | Some l ↦ set w.letters (letter_cell w.n p x.sender) l ])) t) (sym l.1)
-      (station_changed R values B w t i p (record old { stand = Listening; heard = set old.heard x.sender true; hold = None })
+      (station_changed R values B w t i p (record old { stand = Listening; heard = with_station old.heard x.sender; hold = None })
       (set w.letters c l.0) t.notes h (λ p' r q e. refl)
       (λ p' q d hq. cell_kept w.letters w.n p x.sender l.0 hx p' q hq (λ z _. d z)) (record {
         round = at.round;
         limit = at.limit;
         state = at.state;
         live = λ _. record {
-          places = length-set old.heard x.sender true ∙ a.places;
+          within = within_more old.heard x.sender inside a.within;
           noted = λ r q g. (rw e at (a.noted r q g)) ∙ same_note x.round r (t.rounds p) q x.sender (now ∙ at.round) old.heard inside (a.silent fresh);
           marked = λ q m. elim (cases_eq q x.sender) [
             | inl eq ↦ rw (eq, cell_written w.letters w.n p x.sender l.0 hx letters (omega arith)) (rw (l.1, now ∙ at.round) at b)
-            | inr eq ↦ absurd (false≢true (sym (a.silent fresh q) ∙ sym (get_or-set_other old.heard x.sender q true false eq) ∙ m))
+            | inr eq ↦ absurd (false≢true (sym (a.silent fresh q) ∙ sym (contains_old old.heard x.sender inside q eq) ∙ m))
           ];
           holding = λ y z. absurd (none_some z);
           ahead = λ y z. absurd (none_some z);

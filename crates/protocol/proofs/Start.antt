@@ -3,12 +3,13 @@ use Rattle.std.proofs.Common.{◌≡◌, ℕ, ◌<◌, ◌≤◌, false, ◌&&�
 use native.Mathlib.Nat.{sub-zero}
 use Rattle.std.proofs.lemmas.List.{get_or-replicate}
 use Rattle.std.proofs.lemmas.Bool.{or_parts, ltb-false, eqb-false, false≢true, and_right, or_from}
+use Rattle.stations.proofs.Members.{contains_none}
 use Rattle.rules.specs.Rule.{Behaviour, Interface, lockstep}
 use Rattle.protocol.specs.World.{World, blank, station}
 use Rattle.protocol.specs.Rows.{letter_cells}
 use Rattle.protocol.specs.Calls.{open_refusal, open_tests, opened, state_of}
 use Rattle.protocol.specs.Tally.{start}
-use Rattle.lists.proofs.Tables.{get_or_written, get_or_replicate_all}
+use Rattle.lists.proofs.Tables.{get_or_written}
 use Rattle.lists.proofs.Options.{none_some}
 use Rattle.protocol.proofs.Outcomes.{none_holds}
 use Rattle.protocol.proofs.Invariant.{Inv, Seated}
@@ -43,13 +44,13 @@ module _ {S L : Type 0} (R : Behaviour S L) (face : Interface R) (w : World S L)
         limit = omega arith;
         state = x_is;
         live = λ up. record {
-          places = refl;
-          noted = λ r q i. rw (get_or_replicate_all 16 q false) (sym (or_from (eqb r 0 && false) false (and_right (eqb r 0) false refl) refl));
-          marked = λ q m. absurd (false≢true (sym (get_or_replicate_all 16 q false) ∙ m));
+          within = omega arith;
+          noted = λ r q i. rw (contains_none q) (sym (or_from (eqb r 0 && false) false (and_right (eqb r 0) false refl) refl));
+          marked = λ q m. absurd (false≢true (sym (contains_none q) ∙ m));
           holding = λ h e. absurd (none_some e);
           ahead = λ h e. absurd (none_some e);
           later = λ f h e. absurd (none_some e);
-          silent = λ f q. get_or_replicate_all 16 q false;
+          silent = λ f q. contains_none q;
         };
       })
 

@@ -1,12 +1,14 @@
 -- An accepted turn keeps the invariant: the new entry is the tally's triple, and the new state is the lockstep run's.
-use Rattle.std.proofs.Common.{◌≡◌, ℕ, suc, ◌+◌, ◌-◌, ◌<◌, ◌≤◌, true, false, cond, ◌&&◌, eqb, List, [], ◌∷◌, ◌++◌, map, length, get_or, set, replicate, Some, None, Option, sym, refl, ap, ◌∙◌, inl, inr, add-one, arith}
+use Rattle.std.proofs.Common.{◌≡◌, ℕ, suc, ◌+◌, ◌-◌, ◌<◌, ◌≤◌, true, false, cond, ◌&&◌, eqb, List, [], ◌∷◌, ◌++◌, map, length, set, replicate, Some, None, Option, sym, refl, ap, ◌∙◌, inl, inr, add-one, arith}
 use Rattle.std.specs.List.{slice_get}
 use Rattle.std.proofs.Math.Bool.{or-false}
-use Rattle.std.proofs.lemmas.List.{length-set, length_push, length-map, length-append, length-replicate, get_or-set_same, get_or-set_other, ext_get_or, set_at, map_push, append_assoc}
+use Rattle.std.proofs.lemmas.List.{length-set, length_push, length-map, length-append, length-replicate, get_or-set_same, get_or-set_other, set_at, map_push, append_assoc}
 use Rattle.std.proofs.lemmas.Bool.{cases_eq, cases_Bool, leb-false, eqb-true, eqb-false, eq-eqb, ne_eqb, true≢false, false≢true, cond_both, cond-true, cond-false, and_parts, and_left, and_right}
 use Rattle.lists.specs.Lists.{tabulate}
+use Rattle.stations.specs.Stations.{contains, none, set_of, Within}
+use Rattle.stations.proofs.Members.{within_set, contains_none, contains_set, same_members}
 use Rattle.rules.specs.Rule.{Behaviour, Heard, letter_heard, lockstep}
-use Rattle.frames.specs.Book.{pack_entry}
+use Rattle.frames.specs.Book.{entry_word}
 use Rattle.protocol.specs.declared.types.Held.{Held}
 use Rattle.protocol.specs.declared.types.StationRecord.{StationRecord}
 use Rattle.protocol.specs.declared.types.Stand.TheVariants.{Fresh}
@@ -17,7 +19,7 @@ use Rattle.protocol.specs.Rows.{letter_cell, held_cell}
 use Rattle.protocol.specs.Calls.{step, turn_tests, state_of, mailbox_of, turn_refusal, turned}
 use Rattle.protocol.specs.Tally.{Tally, Triple, heard_in, tally_accepted}
 use Rattle.protocol.specs.Guarantee.{entry}
-use Rattle.lists.proofs.Tables.{length_tabulate, get_or_tabulate, get_or_replicate_all, tabulate_same}
+use Rattle.lists.proofs.Tables.{tabulate_same}
 use Rattle.protocol.proofs.Words.{Whole}
 use Rattle.rules.proofs.Runs.{Known, run_grows}
 use Rattle.protocol.proofs.Invariant.{Inv, Live, Seat, Seated, Over, Grows, held, seat_kept, carry_kept, brought_kept, Matched, matched, Follows, attempted}
@@ -25,14 +27,14 @@ use Rattle.protocol.proofs.Outcomes.{none_holds}
 
 -- ---- one more triple
 heard_before : (ts : List Triple) (u : Triple) (p k q : ℕ) → (u.station ≡ p → u.round ≡ k → ⊥) → heard_in (ts ++ (u ∷ [])) p k q ≡ heard_in ts p k q
-heard_before [] u p k q apart = cond_both (eqb u.station p && eqb u.round k) (get_or u.heard q false) false (λ x. x ≡ false)
+heard_before [] u p k q apart = cond_both (eqb u.station p && eqb u.round k) (contains u.heard q) false (λ x. x ≡ false)
     (λ e. let a = and_parts _ _ e in absurd (apart (eqb-true u.station p a.0) (eqb-true u.round k a.1))) (λ e. refl)
 heard_before (t ∷ ts) u p k q apart = rw (heard_before ts u p k q apart)
 
-heard_new : (rounds : ℕ → ℕ) (ts : List Triple) (u : Triple) (q : ℕ) → Over rounds ts → rounds u.station ≤ u.round → heard_in (ts ++ (u ∷ [])) u.station u.round q ≡ get_or u.heard q false
+heard_new : (rounds : ℕ → ℕ) (ts : List Triple) (u : Triple) (q : ℕ) → Over rounds ts → rounds u.station ≤ u.round → heard_in (ts ++ (u ∷ [])) u.station u.round q ≡ contains u.heard q
 heard_new rounds [] u q over h = rw (eq-eqb u.station u.station refl, eq-eqb u.round u.round refl)
 heard_new rounds (t ∷ ts) u q over h =
-    cond_both (eqb t.station u.station && eqb t.round u.round) (get_or t.heard q false) (heard_in (ts ++ (u ∷ [])) u.station u.round q) (λ x. x ≡ get_or u.heard q false)
+    cond_both (eqb t.station u.station && eqb t.round u.round) (contains t.heard q) (heard_in (ts ++ (u ∷ [])) u.station u.round q) (λ x. x ≡ contains u.heard q)
     (λ e.
     let a = and_parts _ _ e in
     let z : rounds t.station ≡ rounds u.station = ap rounds (eqb-true t.station u.station a.0) in
@@ -43,7 +45,7 @@ over_more : (rounds rounds' : ℕ → ℕ) (ts : List Triple) (u : Triple) → (
 over_more rounds rounds' [] u g h o = (h, tt)
 over_more rounds rounds' (t ∷ ts) u g h o = (omega (arith, o.0, g t.station), over_more rounds rounds' ts u g h o.1)
 
-whole_more : (ts : List Triple) (u : Triple) → u.round ≤ 4095 → length u.heard ≡ 16 → Whole ts → Whole (ts ++ (u ∷ []))
+whole_more : (ts : List Triple) (u : Triple) → u.round ≤ 4095 → Within u.heard → Whole ts → Whole (ts ++ (u ∷ []))
 whole_more [] u h l o = (h, l, tt)
 whole_more (t ∷ ts) u h l o = (o.0, o.1, whole_more ts u h l o.2)
 
@@ -83,7 +85,7 @@ moved_more rounds p q = elim (cases_eq q p) [
 
 module _ {S L : Type 0} (R : Behaviour S L) (values : List ℕ) (t : Tally) (known : Known (heard_in t.triples) t.rounds) (p : ℕ) where
   abbrev new : Triple
-  new = record { station = p; round = t.rounds p; heard = tabulate 16 (t.notes p (t.rounds p)) }
+  new = record { station = p; round = t.rounds p; heard = set_of (t.notes p (t.rounds p)) }
 
   abbrev pub H : Heard
   H = heard_in t.triples
@@ -124,21 +126,20 @@ module _ {S L : Type 0} (R : Behaviour S L) (values : List ℕ) (B : ℕ) (w : W
   held_later None later q = refl
   held_later (Some x) later q = and_left (eqb x.round rd) (eqb x.sender q) (ne_eqb x.round rd (λ z. absurd (omega (arith, later x refl))))
 
-  heard_now : (q : ℕ) → t.notes p rd q ≡ get_or s.heard q false
-  heard_now q = a.noted rd q (omega arith) ∙ rw (eq-eqb rd rd refl, held_later s.hold (a.later ready) q) (or-false (get_or s.heard q false))
+  heard_now : (q : ℕ) → t.notes p rd q ≡ contains s.heard q
+  heard_now q = a.noted rd q (omega arith) ∙ rw (eq-eqb rd rd refl, held_later s.hold (a.later ready) q) (or-false (contains s.heard q))
 
-  heard_is : tabulate 16 (t.notes p rd) ≡ s.heard
-  heard_is = ext_get_or false (tabulate 16 (t.notes p rd)) s.heard (length_tabulate 16 (t.notes p rd) ∙ sym a.places)
-      (λ q l. get_or_tabulate 16 (t.notes p rd) q false (rw length_tabulate at l) ∙ heard_now q)
+  heard_is : set_of (t.notes p rd) ≡ s.heard
+  heard_is = same_members (set_of (t.notes p rd)) s.heard (within_set (t.notes p rd)) a.within (λ q l. contains_set (t.notes p rd) q l ∙ heard_now q)
 
-  heard_then : (q : ℕ) → Hn p rd q ≡ get_or s.heard q false
-  heard_then q = heard_new t.rounds t.triples (new R values t i.known p) q i.over (omega arith) ∙ ap (λ x. get_or x q false) heard_is
+  heard_then : (q : ℕ) → Hn p rd q ≡ contains s.heard q
+  heard_then q = heard_new t.rounds t.triples (new R values t i.known p) q i.over (omega arith) ∙ ap (λ x. contains x q) heard_is
 
   known_then : Known Hn (moved t.rounds p)
   known_then x k q e = elim (cases_eq x p) [
     | inl ex ↦ elim (cases_eq k rd) [
       | inl ek ↦
-          let m : get_or s.heard q false ≡ true = sym (heard_then q) ∙ (rw (ex, ek) at e) in
+          let m : contains s.heard q ≡ true = sym (heard_then q) ∙ (rw (ex, ek) at e) in
           omega (arith, (a.marked q m).begun, moved_more t.rounds p q)
       | inr ek ↦ before (λ _ z. ek (sym z))
     ]
@@ -150,8 +151,8 @@ module _ {S L : Type 0} (R : Behaviour S L) (values : List ℕ) (B : ℕ) (w : W
 
   mail_is : mailbox_of R w p ≡ tabulate (length values) (letter_heard R (length values) p rd (Hn p rd) (lockstep R values Hn rd))
   mail_is =
-      let theirs : ℕ → Option L = λ q. cond (get_or s.heard q false) (slice_get w.letters (letter_cell w.n p q)) None in
-      ap (λ m. tabulate m theirs) i.n_is ∙ tabulate_same (length values) theirs (letter_heard R (length values) p rd (Hn p rd) (lockstep R values Hn rd)) (λ q l. elim (cases_Bool (get_or s.heard q false)) [
+      let theirs : ℕ → Option L = λ q. cond (contains s.heard q) (slice_get w.letters (letter_cell w.n p q)) None in
+      ap (λ m. tabulate m theirs) i.n_is ∙ tabulate_same (length values) theirs (letter_heard R (length values) p rd (Hn p rd) (lockstep R values Hn rd)) (λ q l. elim (cases_Bool (contains s.heard q)) [
         | inl m ↦
             let b = a.marked q m in
             rw (heard_then q, m) (b.same ∙ ap (λ y. R.letter (length values) q rd y p) (sym (grows rd q b.begun).1))
@@ -170,7 +171,7 @@ module _ {S L : Type 0} (R : Behaviour S L) (values : List ℕ) (B : ℕ) (w : W
       step ∙ ap (λ k. lockstep R values Hn k p) (sym e)
 
   abbrev then : StationRecord
-  then = record s { round = s.round + 1; stand = Fresh; heard = replicate 16 false }
+  then = record s { round = s.round + 1; stand = Fresh; heard = none }
 
   seat_then :
       eqb s.round 4095 ≡ false → (x : S) → x ≡ R.next w.n p s.round (state_of R w p) (mailbox_of R w p) →
@@ -182,15 +183,15 @@ module _ {S L : Type 0} (R : Behaviour S L) (values : List ℕ) (B : ℕ) (w : W
         limit = rw more (omega (arith, at.limit, at.round, eqb-false s.round 4095 more_left));
         state = e ∙ next_is;
         live = λ _. record {
-          places = refl;
+          within = omega arith;
           noted = λ r q g.
               let past : rd < r = omega (arith, rw more at g) in
-              a.noted r q (omega arith) ∙ rw (ne_eqb r rd (λ z. absurd (omega arith)), get_or_replicate_all 16 q false, and_right (eqb r (moved t.rounds p p)) false refl);
-          marked = λ q m. absurd (false≢true (sym (get_or_replicate_all 16 q false) ∙ m));
+              a.noted r q (omega arith) ∙ rw (ne_eqb r rd (λ z. absurd (omega arith)), contains_none q, and_right (eqb r (moved t.rounds p p)) false refl);
+          marked = λ q m. absurd (false≢true (sym (contains_none q) ∙ m));
           holding = λ y z. brought_kept R values (heard_in t.triples) Hn t.rounds (moved t.rounds p) grows (slice_get w.letters (held_cell w.n p)) y.sender y.round p (a.holding y z);
           ahead = λ y z. rw more (omega (arith, a.later ready y z));
           later = λ f. absurd (true≢false f);
-          silent = λ _ q. get_or_replicate_all 16 q false;
+          silent = λ _ q. contains_none q;
         };
       }
 
@@ -200,7 +201,7 @@ module _ {S L : Type 0} (R : Behaviour S L) (values : List ℕ) (B : ℕ) (w : W
       let n_is = i.n_is in
       let free : w.entries < B = book_room t.triples w.book B w.entries i.book_is i.entries_are (m.book ∙ i.book_len_is)
       (λ z. eqb-false w.entries w.book_len full (z ∙ sym i.book_len_is)) in
-      let word : pack_entry p s.round s.heard ≡ entry (new R values t i.known p) = rw (at.round, heard_is) in
+      let word : entry_word p s.round s.heard ≡ entry (new R values t i.known p) = rw (at.round, heard_is) in
       record {
         n_is = i.n_is;
         book_len_is = i.book_len_is;
@@ -215,9 +216,9 @@ module _ {S L : Type 0} (R : Behaviour S L) (values : List ℕ) (B : ℕ) (w : W
               (moved_apart t.rounds p x e) (λ r q. refl) (get_or-set_other w.stations p x then blank e) (get_or-set_other w.states p x _ _ e) n_is (λ j l. refl) (i.seats x hx)
         ];
         entries_are = rw length_push (omega (arith, i.entries_are));
-        book_is = book_push t.triples w.book B w.entries i.book_is i.entries_are (new R values t i.known p) (pack_entry p s.round s.heard) free word;
+        book_is = book_push t.triples w.book B w.entries i.book_is i.entries_are (new R values t i.known p) (entry_word p s.round s.heard) free word;
         over = over_more t.rounds (moved t.rounds p) t.triples (new R values t i.known p) (moved_more t.rounds p) (rw (moved_here t.rounds p) (omega arith)) i.over;
-        whole = whole_more t.triples (new R values t i.known p) at.limit refl i.whole;
+        whole = whole_more t.triples (new R values t i.known p) at.limit (within_set (t.notes p rd)) i.whole;
         known = known_then;
       }
 

@@ -1,6 +1,9 @@
 -- What each call answers and leaves, by cases.
-use Rattle.std.specs.Prelude.{ℕ, zero, suc, ◌+◌, ◌-◌, Bool, true, false, cond, not, ◌||◌, List, [], ◌∷◌, ◌++◌, length, get_or, set, replicate, Some, None, Ok, Err, Option, Result, ◌==◌, nat_lt, slice_index, slice_index_or, slice_set}
+use Rattle.std.specs.Prelude.{ℕ, zero, suc, ◌+◌, ◌-◌, Bool, cond, not, ◌||◌, List, [], ◌∷◌, ◌++◌, length, get_or, set, replicate, Some, None, Ok, Err, Option, Result, ◌==◌, nat_lt, slice_index, slice_index_or, slice_set}
 use Rattle.lists.specs.Lists.{tabulate, written, put}
+use Rattle.stations.specs.declared.StationSet.{StationSet}
+use Rattle.stations.specs.declared.TheConstants.{STATIONS}
+use Rattle.stations.specs.Stations.{contains, none, with_station}
 use Rattle.rules.specs.Rule.{Behaviour}
 use Rattle.protocol.specs.declared.TheConstants.{MAX_POOL, MAX_BOOK}
 use Rattle.protocol.specs.declared.types.StationRecord.{StationRecord}
@@ -14,8 +17,8 @@ use Rattle.protocol.specs.declared.types.Step.{Step}
 use Rattle.protocol.specs.declared.types.Step.TheVariants.{Send, Deliver, Drop, Repeat, Turn, Crash}
 use Rattle.std.specs.List.{slice_get}
 use Rattle.std.specs.Result.{result_err}
-use Rattle.frames.specs.Frame.{Frame, pack_frame, read_frame}
-use Rattle.frames.specs.Book.{pack_entry}
+use Rattle.frames.specs.Frame.{Frame, frame_word, read_frame}
+use Rattle.frames.specs.Book.{entry_word}
 use Rattle.frames.specs.Pool.{take_out}
 use Rattle.protocol.specs.Refusals.{first_refusal, first_outcome, attempt}
 use Rattle.protocol.specs.Rows.{letter_cells, letter_cell, held_cell}
@@ -26,7 +29,7 @@ use Rattle.protocol.specs.World.{World, blank, hearing, holding, station}
 -- the record of a station that begins to listen, and the sender of the held letter that it takes in
 abbrev pub listened : StationRecord → Option ℕ → StationRecord
 listened s None = record s { stand = Listening }
-listened s (Some q) = record s { stand = Listening; heard = slice_set s.heard q true; hold = None }
+listened s (Some q) = record s { stand = Listening; heard = with_station s.heard q; hold = None }
 
 -- the letter of one cell copied into another
 abbrev pub copied : {L : Type 0} → List L → ℕ → ℕ → List L
@@ -38,8 +41,8 @@ taken_in n p None letters = letters
 taken_in n p (Some q) letters = copied letters (held_cell n p) (letter_cell n p q)
 
 -- the letter that p has from q, if it heard q
-abbrev pub mail : {L : Type 0} → (n p : ℕ) → List Bool → List L → ℕ → Option L
-mail n p heard letters q = cond (slice_index_or heard q false) (slice_get letters (letter_cell n p q)) None
+abbrev pub mail : {L : Type 0} → (n p : ℕ) → StationSet → List L → ℕ → Option L
+mail n p heard letters q = cond (contains heard q) (slice_get letters (letter_cell n p q)) None
 
 -- the fate of a frame of round k from q at a station, or why the station does not take it, in checking order
 abbrev pub judged : StationRecord → (q k : ℕ) → Result Fate Refusal
@@ -50,7 +53,7 @@ judged s q k =
     (holds s.hold, Err HoldsLetter) ∷
     (nat_lt k s.round, Ok Late) ∷
     (nat_lt s.round k, Ok Early) ∷
-    (slice_index_or s.heard q false, Ok Again) ∷ []) (Ok Taken)
+    (contains s.heard q, Ok Again) ∷ []) (Ok Taken)
 
 -- the records when a frame has met its fate: a sender is heard, or a letter is held
 abbrev pub received_stations : {L : Type 0} → List StationRecord → Frame L → Fate → List StationRecord
@@ -102,7 +105,7 @@ module _ {S L : Type 0} (R : Behaviour S L) where
         book_len = length w.book;
         frames = 0;
         entries = 0;
-        stations = replicate 16 blank;
+        stations = replicate STATIONS blank;
         states = written n (λ p. R.first n p (slice_index values p)) w.states;
         letters = w.letters;
         pool = replicate (length w.pool) 0;
@@ -122,7 +125,7 @@ module _ {S L : Type 0} (R : Behaviour S L) where
   frames_from n p k s q zero = []
   frames_from n p k s q (suc m) =
       let rest : List ℕ = frames_from n p k s (suc q) m in
-      elim (R.letter n p k s q) [ None ↦ rest | Some l ↦ pack_frame R (p, q, k, l) ∷ rest ]
+      elim (R.letter n p k s q) [ None ↦ rest | Some l ↦ frame_word R (p, q, k, l) ∷ rest ]
 
   -- the frames of p's letters, by rising receiver
   abbrev pub frames_of : World S L → ℕ → List ℕ
@@ -206,9 +209,9 @@ module _ {S L : Type 0} (R : Behaviour S L) where
       let s : StationRecord = station w p in
       record w {
         entries = w.entries + 1;
-        stations = slice_set w.stations p (record s { round = s.round + 1; stand = Fresh; heard = replicate 16 false });
+        stations = slice_set w.stations p (record s { round = s.round + 1; stand = Fresh; heard = none });
         states = slice_set w.states p (R.next w.n p s.round (state_of w p) (mailbox_of w p));
-        book = slice_set w.book w.entries (pack_entry p s.round s.heard);
+        book = slice_set w.book w.entries (entry_word p s.round s.heard);
       }
 
   abbrev pub turn_call : World S L → ℕ → Result ℕ Refusal × World S L

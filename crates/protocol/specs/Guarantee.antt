@@ -5,7 +5,7 @@ use Rattle.rules.specs.Rule.{Behaviour, Interface, Laws, Ranges, lockstep}
 use Rattle.protocol.specs.declared.refusal.Refusal.{Refusal}
 use Rattle.protocol.specs.declared.types.Step.{Step}
 use Rattle.protocol.specs.declared.types.Step.TheVariants.{Send, Deliver, Drop, Repeat, Turn, Crash}
-use Rattle.frames.specs.Book.{pack_entry, read_entry, book_heard}
+use Rattle.frames.specs.Book.{entry_word, read_entry, book_heard}
 use Rattle.protocol.specs.World.{World, station}
 use Rattle.protocol.specs.Calls.{open_refusal, opened, after, refusals, state_of, sight_of, look_call}
 use Rattle.protocol.specs.Tally.{Tally, Triple, start, tally}
@@ -52,7 +52,7 @@ pub record SameSizes {S L : Type 0} (w v : World S L) : Type 0 where
 -- ---- the guarantee
 -- the book's word of a triple
 abbrev pub entry : Triple → ℕ
-entry t = pack_entry t.station t.round t.heard
+entry t = entry_word t.station t.round t.heard
 
 -- values are the opening values, w the shed with its buffers as open leaves it
 module _ {S L : Type 0} (R : Behaviour S L) (values : List ℕ) (w : World S L) where

@@ -1,6 +1,7 @@
 -- The tally: what a list of calls should come to, told from the calls and from which were refused, without frames, cells or heard marks.
-use Rattle.std.specs.Prelude.{ℕ, zero, suc, ◌+◌, ◌-◌, Bool, false, cond, not, ◌&&◌, ◌||◌, List, [], ◌∷◌, ◌++◌, length, get_or, take, Some, None, Option, ◌==◌, nat_lt, slice_index_or, slice_set}
-use Rattle.lists.specs.Lists.{tabulate}
+use Rattle.std.specs.Prelude.{ℕ, zero, suc, ◌+◌, ◌-◌, false, cond, not, ◌&&◌, ◌||◌, List, [], ◌∷◌, ◌++◌, length, get_or, take, Some, None, Option, ◌==◌, nat_lt, slice_index_or, slice_set}
+use Rattle.stations.specs.declared.StationSet.{StationSet}
+use Rattle.stations.specs.Stations.{contains, set_of}
 use Rattle.rules.specs.Rule.{Behaviour, Heard, lockstep}
 use Rattle.protocol.specs.declared.refusal.Refusal.{Refusal}
 use Rattle.protocol.specs.declared.types.Step.{Step}
@@ -16,7 +17,7 @@ pub record Slip : Type 0 where
 pub record Triple : Type 0 where
   pub station : ℕ
   pub round : ℕ
-  pub heard : List Bool
+  pub heard : StationSet
 
 pub record Tally : Type 0 where
   -- each station's round
@@ -31,7 +32,7 @@ pub record Tally : Type 0 where
 -- whom a station heard in a round, by the first triple for both; nobody if there is none
 abbrev pub heard_in : List Triple → Heard
 heard_in [] p k q = false
-heard_in (t ∷ ts) p k q = cond (t.station == p && t.round == k) (slice_index_or t.heard q false) (heard_in ts p k q)
+heard_in (t ∷ ts) p k q = cond (t.station == p && t.round == k) (contains t.heard q) (heard_in ts p k q)
 
 -- the element at place k is taken out: the last one moves there
 abbrev pub swap_out : {A : Type 0} → A → List A → ℕ → List A
@@ -67,7 +68,7 @@ module _ {S L : Type 0} (R : Behaviour S L) (values : List ℕ) where
   tally_accepted t (Repeat k) = record t { slips = t.slips ++ (slice_index_or t.slips k nowhere ∷ []) }
   tally_accepted t (Turn p) = record t {
     rounds = λ x. cond (x == p) (t.rounds p + 1) (t.rounds x);
-    triples = t.triples ++ (record { station = p; round = t.rounds p; heard = tabulate 16 (t.notes p (t.rounds p)) } ∷ []);
+    triples = t.triples ++ (record { station = p; round = t.rounds p; heard = set_of (t.notes p (t.rounds p)) } ∷ []);
   }
   tally_accepted t (Crash p) = t
 

@@ -1,5 +1,7 @@
 -- The shed and its four buffers as one value.
-use Rattle.std.specs.Prelude.{ℕ, true, false, List, replicate, Some, None, slice_index_or, slice_set}
+use Rattle.std.specs.Prelude.{ℕ, List, replicate, Some, None, slice_index_or}
+use Rattle.stations.specs.declared.TheConstants.{STATIONS}
+use Rattle.stations.specs.Stations.{none, with_station}
 use Rattle.protocol.specs.declared.types.Held.{Held}
 use Rattle.protocol.specs.declared.types.StationRecord.{StationRecord}
 use Rattle.protocol.specs.declared.types.Stand.TheVariants.{Fresh}
@@ -23,11 +25,11 @@ pub record World (S L : Type 0) : Type 0 where
 
 -- a station in round 0 that has sent, heard and held nothing
 abbrev pub blank : StationRecord
-blank = record { round = 0; stand = Fresh; heard = replicate 16 false; hold = None }
+blank = record { round = 0; stand = Fresh; heard = none; hold = None }
 
 -- the record of a station that heard q, and of one that holds a letter
 abbrev pub hearing : StationRecord → ℕ → StationRecord
-hearing s q = record s { heard = slice_set s.heard q true }
+hearing s q = record s { heard = with_station s.heard q }
 
 abbrev pub holding : StationRecord → Held → StationRecord
 holding s h = record s { hold = Some h }
@@ -44,7 +46,7 @@ shut states letters pool book = record {
   book_len = 0;
   frames = 0;
   entries = 0;
-  stations = replicate 16 blank;
+  stations = replicate STATIONS blank;
   states = states;
   letters = letters;
   pool = pool;

@@ -1,8 +1,9 @@
 // What the shed keeps of a station, what it is asked to do, and what it answers.
-ghost use Rattle.std.specs.Prelude.{◌≡◌, false, slice_index_or};
+ghost use Rattle.std.specs.Prelude.{◌≡◌};
 ghost use Rattle.protocol.specs.Calls.{judged};
 
 use crate::refusal::Refusal;
+use stations::StationSet;
 use std::cmp::Ordering;
 
 // Where a station is in its round: it has not sent yet, it has sent and takes letters, or it has crashed for good.
@@ -25,18 +26,11 @@ pub struct Held {
 pub struct StationRecord {
     pub round: u16,
     pub stand: Stand,
-    pub heard: [bool; 16],
+    pub heard: StationSet,
     pub hold: Option<Held>,
 }
 
 impl StationRecord {
-    // Whether the station heard q in its round.
-    fn has_heard(&self, q: usize) -> bool
-        ensures { result ≡ slice_index_or self.now.heard q false }
-    {
-        self.heard.get(q).copied().unwrap_or(false)
-    }
-
     // The fate of a frame of a round from a sender, or why the station does not take it: it is down, it has not sent in
     // its round, or it holds a letter.
     pub fn judge(&self, sender: usize, round: u16) -> Result<Fate, Refusal>
@@ -48,7 +42,7 @@ impl StationRecord {
             (Stand::Listening, _) if self.hold.is_some() => Err(Refusal::HoldsLetter),
             (Stand::Listening, Ordering::Less) => Ok(Fate::Late),
             (Stand::Listening, Ordering::Greater) => Ok(Fate::Early),
-            (Stand::Listening, Ordering::Equal) if self.has_heard(sender) => Ok(Fate::Again),
+            (Stand::Listening, Ordering::Equal) if self.heard.contains(sender) => Ok(Fate::Again),
             (Stand::Listening, Ordering::Equal) => Ok(Fate::Taken),
         }
     }

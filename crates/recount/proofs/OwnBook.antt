@@ -6,6 +6,7 @@ use lib.Seq.{take-append-add}
 use Rattle.std.proofs.lemmas.List.{take-replicate, take_all, length-map}
 use Rattle.std.proofs.lemmas.Bool.{cases_lt}
 use Rattle.std.proofs.lemmas.Bool.Decides.{nat_tests}
+use Rattle.stations.specs.Stations.{contains}
 use Rattle.rules.specs.Rule.{Behaviour, Interface, Laws, Ranges, Heard, lockstep}
 use Rattle.lists.proofs.Tables.{get_or_written}
 use Rattle.frames.specs.Book.{book_heard}
@@ -33,7 +34,7 @@ own_heard : (ws words : List ℕ) (j more : ℕ) → words ≡ take (length ws +
 own_heard ws words j more e =
     let z = some_zeros more j in
     let is : words ≡ ws ++ replicate z.0 0 = e ∙ take-append-add ws (replicate j 0) more ∙ ap (λ xs. ws ++ xs) z.1 in
-    ap book_heard is ∙ fun_ext (λ p. fun_ext (λ k. fun_ext (λ q. zeros_after ws z.0 p k q ∙ sym (zeros_after ws j p k q))))
+    ap book_heard is ∙ fun_ext (λ p. fun_ext (λ k. ap contains (zeros_after ws z.0 p k ∙ sym (zeros_after ws j p k))))
 
 -- no reason to refuse
 accepts : (most n shortest round : ℕ) → 1 ≤ n → n ≤ most → n ≤ shortest → round ≤ 4095 → run_refusal most n shortest (ltb 4095 round) ≡ None

@@ -1,6 +1,7 @@
 -- The lockstep run, from a round to the next.
-use Rattle.std.proofs.Common.{◌≡◌, ℕ, suc, ◌+◌, ◌<◌, ◌≤◌, Bool, List, ◌++◌, length, get_or, take, drop, sym, refl, ap, ◌∙◌, add-one, arith}
+use Rattle.std.proofs.Common.{◌≡◌, ℕ, suc, ◌+◌, ◌<◌, ◌≤◌, List, ◌++◌, length, get_or, take, drop, sym, refl, ap, ◌∙◌, add-one, arith}
 use Rattle.lists.specs.Lists.{tabulate, written, put}
+use Rattle.stations.specs.declared.StationSet.{StationSet}
 use Rattle.rules.specs.Rule.{Behaviour, next_state, lockstep}
 use Rattle.rules.proofs.Runs.{next_same}
 use Rattle.lists.proofs.Tables.{tabulate_same, put_table, take_written, get_or_written, drop_written}
@@ -10,7 +11,7 @@ use Rattle.recount.specs.Recount.{state_in, state_after, Advances, recounted}
 
 -- the states after a round of a lockstep run are those of the run at the round after it
 pub advances :
-    {S L : Type 0} (R : Behaviour S L) (n k : ℕ) (sets : List (List Bool)) (states before after : List S) →
+    {S L : Type 0} (R : Behaviour S L) (n k : ℕ) (sets : List StationSet) (states before after : List S) →
     after ≡ written n (state_after R n k sets states) before → Advances R n k sets states before after
 unfolding Advances lockstep
 advances R n k sets states before after e values H count heard state =
@@ -39,13 +40,13 @@ module _ {S L : Type 0} (R : Behaviour S L) (values book : List ℕ) where
 
   -- one round more
   pub run_more :
-      (k : ℕ) (sets : List (List Bool)) (cells states scratch next front : List S) → n ≤ 16 →
+      (k : ℕ) (sets : List StationSet) (cells states scratch next front : List S) → n ≤ 16 →
       states ≡ recounted R values book k cells → sets ≡ heard_sets book k →
       next ≡ written n (state_after R n k sets states) scratch → front ≡ take n next →
       front ++ drop n states ≡ recounted R values book (k + 1) cells
   unfolding Advances
   run_more k sets cells states scratch next front few before heard advanced copied =
-      let hear : (p q : ℕ) → p < n → q < n → hears sets p q ≡ book_heard book p k q = λ p q l m. rw heard (sets_hear book k p q (omega arith) (omega arith)) in
+      let hear : (p q : ℕ) → p < n → q < n → hears sets p q ≡ book_heard book p k q = λ p q l m. rw heard (sets_hear book k p q (omega arith)) in
       let state : (p : ℕ) → p < n → state_in R n states p ≡ run k p = λ p l. rw before (get_or_written n (run k) cells p (R.first n p 0) l) in
       let new : next ≡ written n (run (suc k)) scratch = advances R n k sets states scratch next advanced values (book_heard book) refl hear state in
       let ahead : front ≡ tabulate n (run (suc k)) = copied ∙ ap (take n) new ∙ take_written n (run (suc k)) scratch in

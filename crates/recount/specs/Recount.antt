@@ -1,6 +1,7 @@
 -- What one lockstep round and recount answer and leave.
 use Rattle.std.specs.Prelude.{◌≡◌, ℕ, suc, ◌+◌, ◌<◌, min, Bool, ◌||◌, List, [], ◌∷◌, length, Option, Result, ◌==◌, nat_le, nat_lt, slice_index_or}
 use Rattle.lists.specs.Lists.{written}
+use Rattle.stations.specs.declared.StationSet.{StationSet}
 use Rattle.rules.specs.Rule.{Behaviour, Heard, letter_heard, next_state, lockstep}
 use Rattle.frames.specs.Book.{book_heard, hears}
 use Rattle.protocol.specs.declared.refusal.Refusal.{Refusal}
@@ -21,21 +22,21 @@ module _ {S L : Type 0} (R : Behaviour S L) (n : ℕ) where
   state_in states p = slice_index_or states p (R.first n p 0)
 
   -- what p hears of q in round k, from the heard sets and the cells of all stations
-  abbrev pub letter_in : ℕ → List (List Bool) → List S → (p q : ℕ) → Option L
+  abbrev pub letter_in : ℕ → List StationSet → List S → (p q : ℕ) → Option L
   letter_in k sets states p = letter_heard R n p k (hears sets p) (state_in states)
 
   -- p's state after round k, from the heard sets and the cells of all stations
-  abbrev pub state_after : ℕ → List (List Bool) → List S → ℕ → S
+  abbrev pub state_after : ℕ → List StationSet → List S → ℕ → S
   state_after k sets states p = next_state R n p k (hears sets p) (state_in states)
 
   -- what a round answers, and what it leaves in the cells for the states after it: the first n are written
-  abbrev pub round_call : ℕ → List (List Bool) → List S → List S → Result ℕ Refusal × List S
+  abbrev pub round_call : ℕ → List StationSet → List S → List S → Result ℕ Refusal × List S
   round_call k sets states cells =
       attempt cells (run_refusal R.most n (min (length states) (length cells)) (nat_le 4095 k)) (k + 1)
       (written n (state_after k sets states) cells)
 
   -- from the lockstep run at round k to the run at the round after it
-  unfoldable pub Advances : ℕ → List (List Bool) → List S → List S → List S → Type 0
+  unfoldable pub Advances : ℕ → List StationSet → List S → List S → List S → Type 0
   Advances k sets states before after =
       (values : List ℕ) (H : Heard) → length values ≡ n →
       ((p q : ℕ) → p < n → q < n → hears sets p q ≡ H p k q) →

@@ -1,9 +1,11 @@
 // The states of all stations after a round of the lockstep run, from those before it.
 ghost use Rattle.std.specs.Prelude.{◌≡◌, ◌<◌, ◌≤◌, if◌then◌else◌, length, nat_lt, take, None};
 ghost use Rattle.lists.specs.Lists.{tabulate, written};
+ghost use Rattle.stations.specs.declared.TheConstants.{STATIONS};
 ghost use Rattle.recount.specs.Recount.{letter_in, state_after};
 
 use rules::Rule;
+use stations::{STATIONS, StationSet};
 use std::array;
 
 // A round of n stations: whom each of them hears in it, and all states before it.
@@ -12,9 +14,9 @@ pub struct LockstepRound<'a, R: Rule> {
     pub rule: &'a R,
     pub n: usize,
     pub round: u16,
-    pub heard: &'a [[bool; 16]; 16],
+    pub heard: &'a [StationSet; STATIONS],
     pub states: &'a [R::State],
-    ghost few: { n ≤ 16 },
+    ghost few: { n ≤ STATIONS },
     ghost there: { n ≤ length states.now },
 }
 
@@ -26,7 +28,7 @@ impl<'a, R: Rule> LockstepRound<'a, R> {
         requires { receiver < self.now.n }
         ensures { result ≡ (if nat_lt sender self.now.n then letter_in (R.Rule.behaviour self.now.rule.now) self.now.n self.now.round self.now.heard.now self.now.states.now receiver sender else None) }
     {
-        if sender < self.n && self.heard[receiver][sender] {
+        if sender < self.n && self.heard[receiver].contains(sender) {
             self.rule
                 .letter(self.n, sender, self.round, &self.states[sender], receiver)
         } else {
@@ -36,10 +38,10 @@ impl<'a, R: Rule> LockstepRound<'a, R> {
 
     // The letters that the receiver hears, in the first n places of an array, which asks for no memory. The shed
     // has one line like it; a function of both would say more than each.
-    fn mailbox(&self, receiver: usize) -> [Option<R::Letter>; 16]
+    fn mailbox(&self, receiver: usize) -> [Option<R::Letter>; STATIONS]
         requires { receiver < self.now.n }
         ensures places { take self.now.n result ≡ tabulate self.now.n (letter_in (R.Rule.behaviour self.now.rule.now) self.now.n self.now.round self.now.heard.now self.now.states.now receiver) }
-        ensures len { length result ≡ 16 }
+        ensures len { length result ≡ STATIONS }
     {
         array::from_fn(|sender| self.letter(sender, receiver))
     }

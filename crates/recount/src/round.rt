@@ -6,6 +6,7 @@ use crate::advance::LockstepRound;
 use crate::check::check;
 use protocol::refusal::Refusal;
 use rules::{LAST_ROUND, Rule};
+use stations::{STATIONS, StationSet};
 
 // Leaves the states of all n stations after the round in the first n cells of `next`, from those before it in the first
 // n of `states` and from whom each station heard, and answers the round after it. If the states are those of a lockstep
@@ -15,7 +16,7 @@ pub fn lockstep_round<R: Rule>(
     rule: &R,
     n: usize,
     round: u16,
-    heard: &[[bool; 16]; 16],
+    heard: &[StationSet; STATIONS],
     states: &[R::State],
     next: &mut [R::State],
 ) -> Result<u16, Refusal>

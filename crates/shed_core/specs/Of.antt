@@ -1,5 +1,6 @@
 -- A shed with its buffers, as a value, and what a call's answer and buffers come to.
 use Rattle.std.specs.Prelude.{◌≡◌, ℕ, List, replicate}
+use Rattle.stations.specs.declared.TheConstants.{STATIONS}
 use Rattle.protocol.specs.World.{World, blank, shut}
 use Rattle.shed_core.specs.declared.shed.Shed.{Shed}
 use Rattle.shed_core.specs.declared.buffers.Buffers.{Buffers}
@@ -53,4 +54,4 @@ pub record IsNew (s : Shed) : Type 0 where
   pub no_book : s.book_len ≡ 0
   pub no_frames : s.frames ≡ 0
   pub no_entries : s.entries ≡ 0
-  pub blanks : s.table.records ≡ replicate 16 blank
+  pub blanks : s.table.records ≡ replicate STATIONS blank

@@ -1,14 +1,16 @@
 // The stations' records.
 ghost use Rattle.std.specs.Prelude.{◌≡◌, ◌<◌, replicate, slice_index_or, slice_set};
+ghost use Rattle.stations.specs.declared.TheConstants.{STATIONS};
 ghost use Rattle.protocol.specs.World.{blank, hearing, holding};
 
 use crate::cells::store;
 use protocol::types::{Held, Stand, StationRecord};
+use stations::{STATIONS, StationSet};
 
 // One record for each of sixteen stations, so that a table asks for no memory; a shed with fewer uses the first.
 #[derive(Clone, Copy, Debug, PartialEq, Eq)]
 pub struct Table {
-    records: [StationRecord; 16],
+    records: [StationRecord; STATIONS],
 }
 
 // A station in round 0 that has sent, heard and held nothing.
@@ -18,17 +20,17 @@ pub fn blank_record() -> StationRecord
     StationRecord {
         round: 0,
         stand: Stand::Fresh,
-        heard: [false; 16],
+        heard: StationSet::empty(),
         hold: None,
     }
 }
 
 impl Table {
     pub fn new() -> Table
-        ensures { result.records ≡ replicate 16 blank }
+        ensures { result.records ≡ replicate STATIONS blank }
     {
         Table {
-            records: [blank_record(); 16],
+            records: [blank_record(); STATIONS],
         }
     }
 
@@ -41,7 +43,7 @@ impl Table {
 
     // The record of station p, lent, so that no frame's delivery copies one.
     pub(crate) fn lend(&self, p: usize) -> &StationRecord
-        requires { p < 16 }
+        requires { p < STATIONS }
         ensures { result.now ≡ slice_index_or self.now.records p blank }
     {
         &self.records[p]
@@ -54,14 +56,12 @@ impl Table {
         store(&mut self.records, p, new);
     }
 
-    // Station p heard q. This and the next write one field in place: with a copy that is changed and given back, the longest
-    // schedule takes 5 % more instructions.
+    // Station p heard q.
     pub(crate) fn hear(&mut self, p: usize, q: usize)
-        requires { q < 16 }
         ensures { self.new.records ≡ slice_set self.old.records p (hearing (slice_index_or self.old.records p blank) q) }
     {
         if p < self.records.len() {
-            self.records[p].heard[q] = true;
+            self.records[p].heard.insert(q);
         }
     }
 

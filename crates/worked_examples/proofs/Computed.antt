@@ -2,8 +2,8 @@
 use Rattle.std.proofs.Common.{◌≡◌, [], ◌∷◌, Some, refl}
 use Rattle.third_rule.specs.Third.{third}
 use Rattle.rules.specs.Rule.{lockstep}
-use Rattle.frames.specs.Frame.{pack_frame, read_frame}
-use Rattle.frames.specs.Book.{pack_entry}
+use Rattle.frames.specs.Frame.{frame_word, read_frame}
+use Rattle.frames.specs.Book.{entry_word}
 use Rattle.frames.specs.Pool.{take_out}
 use Rattle.protocol.specs.Calls.{step, after, refusals}
 use Rattle.protocol.specs.Tally.{tally, tally_accepted}
@@ -27,7 +27,7 @@ unfolding lockstep
 last_runs = record { first_phase = refl; stamp_found = refl; free_again = refl }
 
 pub words : WordExamples
-unfolding pack_frame read_frame pack_entry
+unfolding frame_word read_frame entry_word
 words = record {
   packed = refl;
   third_reads = refl;
@@ -37,16 +37,16 @@ words = record {
 }
 
 pub a_run : RunExample
-unfolding after refusals step tally tally_accepted lockstep pack_frame read_frame pack_entry take_out
+unfolding after refusals step tally tally_accepted lockstep frame_word read_frame entry_word take_out
 a_run = record { refused = refl; hulls = refl; book = refl; triples = refl }
 
 -- the cells of both stations after the run
 pub last_cells : (after third begin run).states ≡ record { value = 7; hull = Some 7 } ∷ record { value = 7; hull = Some 7 } ∷ []
-unfolding after step lockstep pack_frame read_frame pack_entry take_out
+unfolding after step lockstep frame_word read_frame entry_word take_out
 last_cells = refl
 
 fates : FateExamples
-unfolding after step pack_frame read_frame pack_entry take_out
+unfolding after step frame_word read_frame entry_word take_out
 fates = record {
   taken = refl;
   again = refl;
@@ -58,7 +58,7 @@ fates = record {
 }
 
 refused : RefusalExamples
-unfolding after step pack_frame read_frame pack_entry take_out
+unfolding after step frame_word read_frame entry_word take_out
 refused = record {
   shut_shed = refl;
   open_again = refl;

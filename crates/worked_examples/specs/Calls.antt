@@ -1,5 +1,6 @@
 -- Worked examples of the calls: two stations that open with 9 and 7 under OneThirdRule.
-use Rattle.std.specs.Prelude.{◌≡◌, ℕ, true, false, List, [], ◌∷◌, ◌++◌, map, take, replicate, Some, None, Ok, Option, Result}
+use Rattle.std.specs.Prelude.{◌≡◌, ℕ, List, [], ◌∷◌, ◌++◌, map, take, replicate, Some, None, Ok, Option, Result}
+use Rattle.stations.specs.Stations.{none, with_station}
 use Rattle.third_rule.specs.declared.State.{State}
 use Rattle.third_rule.specs.declared.Letter.{Letter}
 use Rattle.third_rule.specs.Third.{third}
@@ -71,7 +72,7 @@ pub record FateExamples : Type 0 where
   pub again : fate_after (Send 0 ∷ Repeat 0 ∷ Deliver 0 ∷ []) 0 ≡ Ok Again
   pub late : fate_after ahead 0 ≡ Ok Late
   pub early : fate_after ahead 3 ≡ Ok Early
-  pub held_is_heard : held_then_sent.heard ≡ true ∷ replicate 15 false
+  pub held_is_heard : held_then_sent.heard ≡ with_station none 0
   pub hold_is_empty : held_then_sent.hold ≡ None
   -- the last frame moves to the place of the one that is taken out
   pub moved : take 2 (after third begin (Send 0 ∷ Drop 0 ∷ [])).pool ≡ 0x0100000090000000 ∷ 0 ∷ []
@@ -82,7 +83,7 @@ refused_after w calls c = (step third (after third w calls) c).0
 
 -- a station of round 4,095 that listens
 abbrev pub at_the_end : World State Letter
-at_the_end = with_stations third begin (record { round = 4095; stand = Listening; heard = replicate 16 false; hold = None } ∷ [])
+at_the_end = with_stations third begin (record { round = 4095; stand = Listening; heard = none; hold = None } ∷ [])
 
 pub record RefusalExamples : Type 0 where
   pub shut_shed : refused_after (buffers 8 6) [] (Send 0) ≡ Some Shut

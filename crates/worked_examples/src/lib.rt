@@ -20,6 +20,7 @@ use rules::{LAST_ROUND, Rule};
 use schedule_text::reader::{FIRST_STEP, MAX_BYTES, MAX_VALUES, read_schedule};
 use schedule_text::types::{ReadError, Schedule};
 use shed_core::buffers::Buffers;
+use stations::StationSet;
 use std::alloc::Global;
 use third::Third;
 
@@ -78,7 +79,7 @@ pub fn unpacked_stamps() -> [Option<last::Letter>; 2]
 }
 
 /// A frame of each rule, and an entry.
-#[tactic(auto, unfolding(frames::specs::Frame::pack_frame, frames::specs::Book::pack_entry))]
+#[tactic(auto, unfolding(frames::specs::Frame::frame_word, frames::specs::Book::entry_word))]
 pub fn packed_words() -> [Option<u64>; 3]
     ensures packed { result ≡ map Some words }
     ensures examples { WordExamples }
@@ -88,13 +89,13 @@ pub fn packed_words() -> [Option<u64>; 3]
         value: 300,
         stamp: 1,
     };
-    let mut heard = [false; 16];
-    heard[0] = true;
-    heard[1] = true;
+    let mut heard = StationSet::empty();
+    heard.insert(0);
+    heard.insert(1);
     [
         pack_frame(&Third, 0, 1, 1, &seven),
         pack_frame(&Last, 2, 0, 4, &latest),
-        pack_entry(1, 1, &heard),
+        pack_entry(1, 1, heard),
     ]
 }
 

@@ -69,7 +69,7 @@ impl Shed {
         if let Some(sender) = self.due_sender(p) {
             let held = held_cell(self.count, p);
             copy_letter(letters, held, letter_cell(self.count, p, sender));
-            station.heard[sender] = true;
+            station.heard.insert(sender);
             station.hold = None;
         }
         station.stand = Stand::Listening;

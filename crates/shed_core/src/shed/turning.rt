@@ -1,6 +1,7 @@
 // A station goes to its next round.
 ghost use Rattle.std.specs.Prelude.{◌≡◌, ◌<◌, None, if◌then◌else◌, length, nat_lt, take};
 ghost use Rattle.lists.specs.Lists.{tabulate};
+ghost use Rattle.stations.specs.declared.TheConstants.{STATIONS};
 ghost use Rattle.shed_core.specs.Of.{world_of, ComesTo, StillLent};
 ghost use Rattle.protocol.specs.Calls.{mail, turn_call};
 
@@ -11,6 +12,7 @@ use frames::book::pack_entry;
 use protocol::refusal::Refusal;
 use protocol::types::Stand;
 use rules::Rule;
+use stations::{STATIONS, StationSet};
 use std::array;
 
 impl Shed {
@@ -19,13 +21,13 @@ impl Shed {
         &self,
         letters: &[L],
         p: usize,
-        heard: &[bool; 16],
+        heard: StationSet,
         q: usize,
     ) -> Option<L>
-        requires { (p < self.now.count) × (q < 16) }
-        ensures { result ≡ if nat_lt q self.now.count then mail self.now.count p heard.now letters.now q else None }
+        requires { (p < self.now.count) × (q < STATIONS) }
+        ensures { result ≡ if nat_lt q self.now.count then mail self.now.count p heard letters.now q else None }
     {
-        if q < self.count && heard[q] {
+        if q < self.count && heard.contains(q) {
             letters.get(letter_cell(self.count, p, q)).copied()
         } else {
             None
@@ -38,12 +40,12 @@ impl Shed {
         &self,
         buffers: &Buffers<'_, S, L>,
         p: usize,
-        heard: &[bool; 16],
-    ) -> [Option<L>; 16]
+        heard: StationSet,
+    ) -> [Option<L>; STATIONS]
         requires { p < self.now.count }
         ensures places { take self.now.count result
-            ≡ tabulate self.now.count (mail self.now.count p heard.now buffers.now.letters.now) }
-        ensures len { length result ≡ 16 }
+            ≡ tabulate self.now.count (mail self.now.count p heard buffers.now.letters.now) }
+        ensures len { length result ≡ STATIONS }
     {
         array::from_fn(|q| self.letter_from(buffers.letters, p, heard, q))
     }
@@ -63,14 +65,14 @@ impl Shed {
         self.ready(buffers)?;
         let mut station = self.turner(p)?;
         let n = self.count;
-        let mail = self.mailbox(buffers, p, &station.heard);
+        let mail = self.mailbox(buffers, p, station.heard);
         let mail = &mail[..n];
         buffers.states[p] = rule.next(n, p, station.round, &buffers.states[p], mail);
-        buffers.book[self.entries] = pack_entry(p, station.round, &station.heard).unwrap();
+        buffers.book[self.entries] = pack_entry(p, station.round, station.heard).unwrap();
         self.entries += 1;
         station.round += 1;
         station.stand = Stand::Fresh;
-        station.heard = [false; 16];
+        station.heard = StationSet::empty();
         self.table.change(p, station);
         Ok(station.round)
     }

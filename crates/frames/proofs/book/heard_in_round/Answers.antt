@@ -3,7 +3,7 @@ use Rattle.frames.proofs.Sets.{sets_named, sets_passed, sets_empty, read_more}
 use Rattle.frames.proofs.book.heard_in_round.Goals as goal
 
 pub loop-word-init : goal.loop-word-init
-loop-word-init c = ([], search rules, sym (sets_empty c.args.round))
+loop-word-init c = ([], search rules, rw c.empty-sets.ensures.set (sym (sets_empty c.args.round)))
 
 pub loop-word-preserved-then-round_in-round : goal.loop-word-preserved-then-round_in-round
 loop-word-preserved-then-round_in-round c =

@@ -1,11 +1,11 @@
 use Rattle.std.proofs.Common.{arith}
 use Rattle.std.proofs.lemmas.Bool.Decides.{nat_tests}
-use Rattle.frames.specs.Frame.{Frame, pack_frame}
+use Rattle.frames.specs.Frame.{Frame, frame_word}
 use Rattle.frames.proofs.RoundTrip.{packed_reads_back}
 use Rattle.frames.proofs.frame.pack_frame.Goals as goal
 
 pub returns : goal.returns
-unfolding pack_frame
+unfolding frame_word
 returns g c =
     let rule = c.args.rule.now in
     let f : Frame g.row.R-Letter.Denot = (c.args.sender, c.args.receiver, c.args.round, c.args.letter.now) in

@@ -1,6 +1,6 @@
 use Rattle.std.proofs.Common.{rules, cond, ltb, None, take, ap, ◌∙◌}
 use Rattle.std.proofs.lemmas.Bool.{lt-ltb, cond-true}
-use Rattle.frames.proofs.Made.{made_table, take_table}
+use Rattle.lists.proofs.Made.{made_table, take_table}
 use Rattle.recount.specs.Recount.{letter_in}
 use Rattle.recount.proofs.advance.LockstepRound.mailbox.Goals as goal
 
