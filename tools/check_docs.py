@@ -2,7 +2,7 @@
 """Checks what the pages (README.md, docs/, examples/README.md, peer/README.md) say of the repository:
 
 - links and anchors, paths, names beside a link to a source file, and names of the code anywhere;
-- the parts of the guarantee, the map of the crates, the edits that are named;
+- that each public function stands among the promises; the parts of the guarantee, the map of the crates, the edits that are named;
 - constants, the numbers of refusals and faults, counted lines and edits, and that no public function has a precondition;
 - the examples that can be followed by hand, the program that the first page shows, and that docs/REFERENCE.md is fresh.
 
@@ -275,6 +275,15 @@ def check_shown():
         wrong("README.md", 0, "what library_example prints is not shown as it is")
 
 
+def check_promises():
+    """Each public function stands among the promises; a rule's do as the methods of the trait."""
+    promises = set(n for tick in ticks(pathlib.Path("docs/PROMISES.md").read_text("utf-8")) for n in names_in(tick))
+    reference = pathlib.Path("docs/REFERENCE.md").read_text("utf-8")
+    for name, code in re.findall(r"^\*\*`([\w:]+)`\*\*.*\n\n```rust\n(.*?)```", reference, re.M | re.S):
+        if re.search(r"\bfn ", code) and not name.startswith("Rule::") and name.split("::")[-1] not in promises:
+            wrong("docs/PROMISES.md", 0, f"{name} is not told")
+
+
 def check_guarantee():
     """The page on the guarantee names each of its parts, and no other."""
     page = pathlib.Path("docs/GUARANTEE.md").read_text("utf-8").partition("## What it says")[2].partition("Beside it")[0]
@@ -361,6 +370,7 @@ def main():
     check_pool(pathlib.Path("docs/SCHEDULE.md"))
     check_shown()
     check_house()
+    check_promises()
     check_guarantee()
     check_numbers()
     if "--program" in args:
