@@ -96,8 +96,7 @@ fn rule(rng: &mut Rng) -> u8 {
 fn ask_state(rng: &mut Rng, n: usize, cell: usize, requests: &mut Vec<Request>) {
     let lent = Request { at: cell, states: usize::MAX, ..Request::default() };
     requests.push(Request { kind: HULL, ..lent });
-    for step in 0..4 {
-        let round = cell as u16 * 4 + step;
+    for round in cell as u16 * 4..cell as u16 * 4 + 4 {
         requests.push(Request { kind: LETTER, n, station: cell, round, receiver: cell, ..lent });
     }
     for _ in 0..3 {
