@@ -20,7 +20,7 @@ use rules::{LAST_ROUND, Rule};
 use schedule_text::reader::{FIRST_STEP, MAX_BYTES, MAX_VALUES, read_schedule};
 use schedule_text::types::{ReadError, Schedule};
 use shed_core::buffers::Buffers;
-use stations::StationSet;
+use stations::{STATIONS, StationSet};
 use std::alloc::Global;
 use third::Third;
 
@@ -168,13 +168,14 @@ pub fn read_two_steps(heap: Global) -> Result<Schedule, ReadError>
     read_schedule(heap, b"rule third\nvalues 9 7\ns 0\nd 12\n")
 }
 
-/// The last round, the most words of a pool and of a book, and of a schedule the most bytes, the most opening values and the
-/// line of the first step.
-pub fn bounds() -> [usize; 6]
-    ensures bounds { result ≡ 4095 ∷ 4096 ∷ 65536 ∷ 65536 ∷ 16 ∷ 3 ∷ [] }
+/// How many stations there can be, the last round, the most words of a pool and of a book, and of a schedule the most bytes,
+/// the most opening values and the line of the first step.
+pub fn bounds() -> [usize; 7]
+    ensures bounds { result ≡ 16 ∷ 4095 ∷ 4096 ∷ 65536 ∷ 65536 ∷ 16 ∷ 3 ∷ [] }
     ensures words { ProgramWords }
 {
     [
+        STATIONS,
         usize::from(LAST_ROUND),
         MAX_POOL,
         MAX_BOOK,
