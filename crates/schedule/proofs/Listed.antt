@@ -92,7 +92,13 @@ module _ {S L : Type 0} (R : Behaviour S L) (new : World S L) (values : List ℕ
     values_few face = omega (arith, face.most_few, (accepted R new values ran.opens).few)
 
     pub book_short : length left.book.now ≤ MAX_BOOK
-    book_short = omega (arith, ap length book_is, ran.guaranteed.sized.book, length-replicate {A = ℕ} (length new.book) 0, (accepted R new values ran.opens).book)
+    book_short = omega (
+      arith,
+      ap length book_is,
+      ran.guaranteed.sized.book,
+      length-replicate {A = ℕ} (length new.book) 0,
+      (accepted R new values ran.opens).book,
+    )
 
     -- where there is a cell for each step, each outcome is told
     all_told : length blank ≡ length steps → told ≡ refusals R (begun R new values steps) steps

@@ -123,7 +123,8 @@ first_wrong_found k (l ∷ ls) f h e = by_first_line (is_right k l) refl e (λ e
           fault = ap fault_at n ∙ same_some e';
         }
 
-first_wrong_stays : (k : ℕ) (before : List (List ℕ)) (line : List ℕ) (later : List (List ℕ)) → 1 ≤ k → AllRightLines k before → (RightLine (k + length before) line → ⊥) →
+first_wrong_stays : (k : ℕ) (before : List (List ℕ)) (line : List ℕ) (later : List (List ℕ)) → 1 ≤ k → AllRightLines k before →
+    (RightLine (k + length before) line → ⊥) →
     first_wrong k (before ++ line ∷ later) ≡ Some (fault_at (k + length before))
 first_wrong_stays k [] line later h rights bad =
     let n : k ≡ k + 0 = omega arith in
@@ -188,7 +189,7 @@ module _ (text : List ℕ) where
         },
       )
     where
-      stopped : (a : Bool) → eqb (length rest) 0 ≡ a → (a && leb FIRST_STEP (length lines)) ≡ false → (0 < length rest) ⊎ (length lines + 1 ≤ 3)
+      stopped : (a : Bool) → eqb (length rest) 0 ≡ a → (a && leb FIRST_STEP (length lines)) ≡ false → (0 < length rest) ⊎ (length lines + 1 ≤ FIRST_STEP)
       stopped true ea eb = inr (grind (arith, nat_tests))
       stopped false ea eb = inl (grind (arith, nat_tests))
 
@@ -240,7 +241,8 @@ one_way = record {
   not_both = λ p f fits h. ok_err (sym (fault_told (write_schedule p) f h) ∙ schedule_back p fits);
 }
   where
-    by_answer : (text : List ℕ) (r : Result Plan Fault) → read_text text ≡ r → ((p : Plan) × PlanFits p × (write_schedule p ≡ text)) ⊎ ((f : Fault) × HasFault text f)
+    by_answer : (text : List ℕ) (r : Result Plan Fault) → read_text text ≡ r →
+        ((p : Plan) × PlanFits p × (write_schedule p ≡ text)) ⊎ ((f : Fault) × HasFault text f)
     by_answer text (Ok p) e = let o = schedule_only text p e in inl (p, o.0, o.1)
     by_answer text (Err f) e = inr (f, told_fault text f e)
 

@@ -11,6 +11,7 @@ use Rattle.protocol.specs.declared.types.Step.TheVariants.{Send, Deliver, Drop, 
 use Rattle.catalogue.specs.declared.RuleName.{RuleName}
 use Rattle.catalogue.specs.Names.{NameFits, text_of}
 use Rattle.catalogue.proofs.Names.{names_read_back}
+use Rattle.schedule_text.specs.declared.reader.TheConstants.{MAX_VALUES, FIRST_STEP}
 use Rattle.schedule_text.specs.Reading.{pieces, numbers_in, values_line, rule_line, step_with, step_line, Plan, read_text, steps_from, at_least_one}
 use Rattle.schedule_text.specs.Writing.{write_rule, write_value, letter_of, number_of, write_step, ended, write_schedule, PlanFits}
 use Rattle.schedule_text.specs.Judging.{Unbroken}
@@ -63,7 +64,7 @@ numbers_back : (vs : List ℕ) → AllByRecursion (λ n. n < 2 ^ 16) vs → numb
 numbers_back [] fit = refl
 numbers_back (v ∷ vs) fit = grind (arith, number_back v fit.0, numbers_back vs fit.1)
 
-pub values_back : (vs : List ℕ) → 0 < length vs → length vs ≤ 16 → AllByRecursion (λ n. n < 2 ^ 16) vs →
+pub values_back : (vs : List ℕ) → 0 < length vs → length vs ≤ MAX_VALUES → AllByRecursion (λ n. n < 2 ^ 16) vs →
     Some vs ≡ values_line (codes "values" ++ flat_map write_value vs)
 values_back vs some few fit =
     let count : length (map decimal vs) ≡ length vs = length-map vs decimal in
@@ -104,7 +105,7 @@ ended_then line rest = append_assoc line (10 ∷ []) rest
 abbrev write_steps : List Step → List ℕ
 write_steps ss = flat_map (λ s. ended (write_step s)) ss
 
-steps_back : (k : ℕ) (ss : List Step) → 3 ≤ k → AllByRecursion (λ s. number_of s < 2 ^ 16) ss → steps_from k (pieces 10 (write_steps ss)) ≡ Ok ss
+steps_back : (k : ℕ) (ss : List Step) → FIRST_STEP ≤ k → AllByRecursion (λ s. number_of s < 2 ^ 16) ss → steps_from k (pieces 10 (write_steps ss)) ≡ Ok ss
 unfolding pieces
 steps_back k [] late fit = refl
 steps_back k (s ∷ ss) late fit =
@@ -135,5 +136,5 @@ schedule_back p fits =
     (without_append 10 (codes "values") (flat_map write_value p.values) refl (without_values p.values fits.values_fit)) in
     then_steps (write_schedule p) fits.short one (ended two ++ after) cut p.rule (rule_back p.rule fits.rule_fits) two after again p.values
     (values_back p.values fits.some_values fits.few_values fits.values_fit)
-    ∙ ap (λ r. assemble p.rule p.values (at_least_one r)) (steps_back 3 p.steps (omega arith) fits.steps_fit)
+    ∙ ap (λ r. assemble p.rule p.values (at_least_one r)) (steps_back FIRST_STEP p.steps (omega arith) fits.steps_fit)
     ∙ ap (assemble p.rule p.values) (some_steps p.steps fits.some_steps)

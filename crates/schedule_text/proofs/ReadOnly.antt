@@ -118,11 +118,12 @@ pub record Stepped (ls : List (List ℕ)) : Type 0 where
   pub fit : AllByRecursion (λ s. number_of s < 2 ^ 16) (steps_in ls)
   pub count : length (steps_in ls) ≡ length ls
 
-steps_only : (k : ℕ) (ls : List (List ℕ)) → 3 ≤ k → first_wrong k ls ≡ None → Stepped ls
+steps_only : (k : ℕ) (ls : List (List ℕ)) → FIRST_STEP ≤ k → first_wrong k ls ≡ None → Stepped ls
 steps_only k [] late h = record { is = refl; fit = tt; count = refl }
 steps_only k (l ∷ ls) late h = by_first_line (is_right k l) refl h (steps_only (suc k) ls (omega arith))
   where
-    by_first_line : (t : Bool) → is_right k l ≡ t → cond t (first_wrong (suc k) ls) (Some (fault_at k)) ≡ None → (first_wrong (suc k) ls ≡ None → Stepped ls) →
+    by_first_line : (t : Bool) → is_right k l ≡ t → cond t (first_wrong (suc k) ls) (Some (fault_at k)) ≡ None →
+        (first_wrong (suc k) ls ≡ None → Stepped ls) →
         Stepped (l ∷ ls)
     by_first_line false e is later = none_some (sym is)
     by_first_line true e is later =
@@ -162,7 +163,7 @@ module _ (text one two : List ℕ) (ls : List (List ℕ)) (short : length text �
       )
 
 abbrev after_first : List (List ℕ) → Option RuleName → Option (List ℕ) → Option Fault
-after_first ls o v = cond (is_some o) (cond (is_some v) (first_wrong 3 ls) (Some WrongValues)) (Some WrongRule)
+after_first ls o v = cond (is_some o) (cond (is_some v) (first_wrong FIRST_STEP ls) (Some WrongValues)) (Some WrongRule)
 
 -- right lines, three at least, make a schedule
 pub right_lines_plan : (ls : List (List ℕ)) → FIRST_STEP ≤ length ls → first_wrong 1 ls ≡ None → (p : Plan) × (plan_in ls ≡ Ok p)
@@ -179,7 +180,8 @@ pub schedule_only : (text : List ℕ) (p : Plan) → read_text text ≡ Ok p →
 unfolding read_text read_lines
 schedule_only text p h = by_length (ltb MAX_BYTES (length text)) refl h
   where
-    plan_of_lines : (ls : List (List ℕ)) (end : List ℕ) → length text ≤ MAX_BYTES → text ≡ flat_map ended ls ++ end → length end ≡ 0 → FIRST_STEP ≤ length ls →
+    plan_of_lines : (ls : List (List ℕ)) (end : List ℕ) → length text ≤ MAX_BYTES → text ≡ flat_map ended ls ++ end → length end ≡ 0 →
+        FIRST_STEP ≤ length ls →
         first_wrong 1 ls ≡ None → plan_in ls ≡ Ok p → PlanFits p × (write_schedule p ≡ text)
     plan_of_lines [] end short is none long right same = absurd (omega arith)
     plan_of_lines (one ∷ []) end short is none long right same = absurd (omega arith)
@@ -192,7 +194,7 @@ schedule_only text p h = by_length (ltb MAX_BYTES (length text)) refl h
         by_rule_and_values (Some r) (Some vs) e f is' same' =
             let made : record { rule = r; values = vs; steps = steps_in ls } ≡ p = cc in
             lines_only text one two ls short (is ∙ ap (λ l. flat_map ended (one ∷ two ∷ ls) ++ l) (nil_from_length end none)) (omega arith) r vs e f
-            (steps_only 3 ls (omega arith) is') p (sym made)
+            (steps_only FIRST_STEP ls (omega arith) is') p (sym made)
 
     lines_decide : (ls : List (List ℕ)) (end : List ℕ) → length text ≤ MAX_BYTES → text ≡ flat_map ended ls ++ end → (w : Option Fault) (t : Bool) →
         first_wrong 1 ls ≡ w → (eqb (length end) 0 && leb FIRST_STEP (length ls)) ≡ t →

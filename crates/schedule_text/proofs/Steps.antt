@@ -5,6 +5,7 @@ use Rattle.std.proofs.Common.{Option, Result, sym, refl, ap, ◌∙◌, append-n
 use Rattle.std.proofs.lemmas.List.{nil_from_length}
 use Rattle.std.proofs.lemmas.Bool.Decides.{nat_tests}
 use Rattle.protocol.specs.declared.types.Step.{Step}
+use Rattle.schedule_text.specs.declared.reader.TheConstants.{FIRST_STEP}
 use Rattle.schedule_text.specs.declared.types.Fault.{Fault}
 use Rattle.schedule_text.specs.declared.types.Fault.TheVariants.{WrongStep, Unfinished}
 use Rattle.schedule_text.specs.Reading.{onto_first, pieces, step_line, is_right, fault_at, first_wrong, all_but_last, last_of, steps_in, unless}
@@ -20,10 +21,10 @@ prepend_more xs s (Ok ys) = grind (arith, common_steps)
 prepend_more xs s (Err f) = refl
 
 -- from the third line on every line is a step
-pub right_later : (k : ℕ) (line : List ℕ) → 3 ≤ k → is_right k line ≡ is_some (step_line line)
+pub right_later : (k : ℕ) (line : List ℕ) → FIRST_STEP ≤ k → is_right k line ≡ is_some (step_line line)
 right_later k line l = grind (arith, nat_tests)
 
-pub wrong_later : (k : ℕ) → 3 ≤ k → fault_at k ≡ WrongStep k
+pub wrong_later : (k : ℕ) → FIRST_STEP ≤ k → fault_at k ≡ WrongStep k
 wrong_later k l = grind (arith, nat_tests)
 
 -- there is always a piece
@@ -44,7 +45,7 @@ after_step k s (Some f) ended m ss = refl
 after_step k s None true m ss = refl
 after_step k s None false m ss = let number : suc m + k ≡ m + suc k = omega arith in ap (λ (n : ℕ). Err (Unfinished n)) number
 
-module _ (k : ℕ) (late : 3 ≤ k) (line : List ℕ) where
+module _ (k : ℕ) (late : FIRST_STEP ≤ k) (line : List ℕ) where
   step_then : (s : Step) (p : List ℕ) (ps : List (List ℕ)) → step_line line ≡ Some s →
       steps_from k (line ∷ p ∷ ps) ≡ prepend (s ∷ []) (steps_from (suc k) (p ∷ ps))
   step_then s p ps e =
@@ -64,24 +65,25 @@ module _ (k : ℕ) (late : 3 ≤ k) (line : List ℕ) where
   step_wrong after e = let some = some_piece 10 after in rw some.2 (wrong_then some.0 some.1 (sym e))
 
 -- xs are the steps of the lines before line k, with which rest begins
-module _ (text rest : List ℕ) (xs : List Step) (k : ℕ) (late : 3 ≤ k) (inv : prepend xs (steps_from k (pieces 10 rest)) ≡ steps_from 3 (pieces 10 text)) where
+module _ (text rest : List ℕ) (xs : List Step) (k : ℕ) (late : FIRST_STEP ≤ k)
+    (inv : prepend xs (steps_from k (pieces 10 rest)) ≡ steps_from FIRST_STEP (pieces 10 text)) where
   pub stops_wrong : (bytes after : List ℕ) → pieces 10 rest ≡ bytes ∷ pieces 10 after → None ≡ step_line bytes →
-      at_least_one (steps_from 3 (pieces 10 text)) ≡ Err (WrongStep k)
+      at_least_one (steps_from FIRST_STEP (pieces 10 text)) ≡ Err (WrongStep k)
   stops_wrong bytes after cut e =
       ap at_least_one (sym inv ∙ ap (λ ps. prepend xs (steps_from k ps)) cut ∙ ap (prepend xs) (step_wrong k late bytes after e))
 
   pub goes_on : (bytes after : List ℕ) (s : Step) → pieces 10 rest ≡ bytes ∷ pieces 10 after → Some s ≡ step_line bytes →
-      prepend (xs ++ s ∷ []) (steps_from (suc k) (pieces 10 after)) ≡ steps_from 3 (pieces 10 text)
+      prepend (xs ++ s ∷ []) (steps_from (suc k) (pieces 10 after)) ≡ steps_from FIRST_STEP (pieces 10 text)
   goes_on bytes after s cut e =
       sym (prepend_more xs s (steps_from (suc k) (pieces 10 after))) ∙ ap (prepend xs) (sym (step_more k late bytes s after e))
       ∙ ap (λ ps. prepend xs (steps_from k ps)) (sym cut) ∙ inv
 
-  steps_at_end : length rest ≡ 0 → steps_from 3 (pieces 10 text) ≡ Ok xs
+  steps_at_end : length rest ≡ 0 → steps_from FIRST_STEP (pieces 10 text) ≡ Ok xs
   unfolding pieces
   steps_at_end e =
       sym inv ∙ ap (λ bs. prepend xs (steps_from k (pieces 10 bs))) (nil_from_length rest e) ∙ ap (λ (l : List Step). Ok l) (append-nil xs)
 
-  pub ends_some : length rest ≡ 0 → 0 < length xs → at_least_one (steps_from 3 (pieces 10 text)) ≡ Ok xs
+  pub ends_some : length rest ≡ 0 → 0 < length xs → at_least_one (steps_from FIRST_STEP (pieces 10 text)) ≡ Ok xs
   ends_some e some = ap at_least_one (steps_at_end e) ∙ some_step xs some
     where
       some_step : (l : List Step) → 0 < length l → at_least_one (Ok l) ≡ Ok l

@@ -24,7 +24,8 @@ words line = pieces 32 (drop 7 line)
 pub values_begin : (line : List ℕ) → bytes_eq (take 7 line) (codes "values ") ≡ true → values_in (codes "values" ∷ words line) ≡ values_line line
 values_begin line e =
     let front = (bytes_eq-Decides (take 7 line) (codes "values ")).0 e in
-    ap values_in (sym (pieces_line 32 (codes "values") (drop 7 line) refl) ∙ ap (pieces 32) (ap (λ l. l ++ drop 7 line) (sym front) ∙ take-append-drop 7 line))
+    ap values_in (sym (pieces_line 32 (codes "values") (drop 7 line) refl)
+    ∙ ap (pieces 32) (ap (λ l. l ++ drop 7 line) (sym front) ∙ take-append-drop 7 line))
 
 pub values_not_begin : (line : List ℕ) → bytes_eq (take 7 line) (codes "values ") ≡ false → None ≡ values_line line
 values_not_begin line e = by_values (values_line line) refl
@@ -65,7 +66,8 @@ appended_with_first : (xs : List ℕ) (n : ℕ) (o : Option (List ℕ)) → appe
 appended_with_first xs n None = refl
 appended_with_first xs n (Some ys) = grind (arith, common_steps)
 
-pub one_word_more : (words : List (List ℕ)) (xs ys : List ℕ) (word : List ℕ) (ws : List (List ℕ)) (n : ℕ) → ReadSoFar words xs (word ∷ ws) → Some n ≡ number_in word →
+pub one_word_more : (words : List (List ℕ)) (xs ys : List ℕ) (word : List ℕ) (ws : List (List ℕ)) (n : ℕ) → ReadSoFar words xs (word ∷ ws) →
+    Some n ≡ number_in word →
     length xs < MAX_VALUES → ys ≡ xs ++ n ∷ [] → ReadSoFar words ys ws
 one_word_more words xs ys word ws n old e room is = let long : length ys ≡ length xs + 1 = ap length is ∙ length_push xs n in record {
   same = grind (arith, is, e, old.same, appended_with_first xs n (numbers_in ws));
@@ -74,7 +76,8 @@ one_word_more words xs ys word ws n old e room is = let long : length ys ≡ len
 }
 
 -- a word that writes no number
-pub bad_word_no_numbers : (words : List (List ℕ)) (xs : List ℕ) (word : List ℕ) (ws : List (List ℕ)) → ReadSoFar words xs (word ∷ ws) → None ≡ number_in word →
+pub bad_word_no_numbers : (words : List (List ℕ)) (xs : List ℕ) (word : List ℕ) (ws : List (List ℕ)) → ReadSoFar words xs (word ∷ ws) →
+    None ≡ number_in word →
     numbers_in words ≡ None
 bad_word_no_numbers words xs word ws old e = sym old.same ∙ ap (λ o. append_to xs (with_first o (numbers_in ws))) (sym e)
 

@@ -48,25 +48,26 @@ assemble rule values (Err f) = Err f
 
 module _ (rule : RuleName) (values : List ℕ) where
   first_step_decides : (o : Option Step) (w : Option Fault) (t : Bool) (m : ℕ) (ss : List Step) →
-      unless (cond (is_some o) w (Some (WrongStep 3)))
+      unless (cond (is_some o) w (Some (WrongStep FIRST_STEP)))
       (cond (t && leb FIRST_STEP (suc (suc (suc m)))) (Ok (record { rule = rule; values = values; steps = and_step o ss }))
       (Err (Unfinished (suc (suc (suc m)) + 1)))) ≡ assemble rule values
-      (at_least_one (unless (cond (is_some o) w (Some (WrongStep 3))) (cond t (Ok (and_step o ss)) (Err (Unfinished (suc m + 3))))))
+      (at_least_one (unless (cond (is_some o) w (Some (WrongStep FIRST_STEP))) (cond t (Ok (and_step o ss)) (Err (Unfinished (suc m + FIRST_STEP))))))
   first_step_decides None w t m ss = refl
   first_step_decides (Some s) (Some f) t m ss = refl
   first_step_decides (Some s) None true m ss = grind (arith, nat_tests)
   first_step_decides (Some s) None false m ss = grind (arith, nat_tests)
 
   steps_decide_lines : (ls : List (List ℕ)) (t : Bool) →
-      unless (first_wrong 3 ls) (cond (t && leb FIRST_STEP (suc (suc (length ls)))) (Ok (record { rule = rule; values = values; steps = steps_in ls }))
+      unless (first_wrong FIRST_STEP ls) (cond (t && leb FIRST_STEP (suc (suc (length ls))))
+      (Ok (record { rule = rule; values = values; steps = steps_in ls }))
       (Err (Unfinished (suc (suc (length ls)) + 1)))) ≡ assemble rule values
-      (at_least_one (unless (first_wrong 3 ls) (cond t (Ok (steps_in ls)) (Err (Unfinished (length ls + 3))))))
+      (at_least_one (unless (first_wrong FIRST_STEP ls) (cond t (Ok (steps_in ls)) (Err (Unfinished (length ls + FIRST_STEP))))))
   steps_decide_lines [] true = refl
   steps_decide_lines [] false = refl
   steps_decide_lines (l ∷ ls) t = first_step_decides (step_line l) (first_wrong 4 ls) t (length ls) (steps_in ls)
 
   right_lines_assemble : (one two p : List ℕ) (ps : List (List ℕ)) → Some rule ≡ rule_line one → Some values ≡ values_line two →
-      by_pieces (one ∷ two ∷ p ∷ ps) ≡ assemble rule values (at_least_one (steps_from 3 (p ∷ ps)))
+      by_pieces (one ∷ two ∷ p ∷ ps) ≡ assemble rule values (at_least_one (steps_from FIRST_STEP (p ∷ ps)))
   unfolding read_lines
   right_lines_assemble one two p ps e f = rw (← e, ← f) (steps_decide_lines (all_but_last (p ∷ ps)) (eqb (length (last_of (p ∷ ps))) 0))
 
@@ -90,16 +91,19 @@ module _ (text : List ℕ) (short : length text ≤ MAX_BYTES) where
         first_two_lines = cut ∙ ap (λ ps. one ∷ ps) (again ∙ ap (λ ps. two ∷ ps) (some_piece 10 after).2)
 
         pub second_is_wrong : None ≡ values_line two → read_text text ≡ Err WrongValues
-        second_is_wrong e = by_pieces_is text short ∙ ap by_pieces first_two_lines ∙ wrong_second rule one two (some_piece 10 after).0 (some_piece 10 after).1 ruled e
+        second_is_wrong e = by_pieces_is text short ∙ ap by_pieces first_two_lines
+            ∙ wrong_second rule one two (some_piece 10 after).0 (some_piece 10 after).1 ruled e
 
         pub then_steps : (values : List ℕ) → Some values ≡ values_line two →
-            read_text text ≡ assemble rule values (at_least_one (steps_from 3 (pieces 10 after)))
+            read_text text ≡ assemble rule values (at_least_one (steps_from FIRST_STEP (pieces 10 after)))
         then_steps values e =
-            by_pieces_is text short ∙ ap by_pieces first_two_lines ∙ right_lines_assemble rule values one two (some_piece 10 after).0 (some_piece 10 after).1 ruled e
-            ∙ ap (λ ps. assemble rule values (at_least_one (steps_from 3 ps))) (sym (some_piece 10 after).2)
+            by_pieces_is text short ∙ ap by_pieces first_two_lines
+            ∙ right_lines_assemble rule values one two (some_piece 10 after).0 (some_piece 10 after).1 ruled e
+            ∙ ap (λ ps. assemble rule values (at_least_one (steps_from FIRST_STEP ps))) (sym (some_piece 10 after).2)
 
 -- the fault of the steps is the fault of the text
 pub steps_fail : (text : List ℕ) → length text ≤ MAX_BYTES → (after : List ℕ) (rule : RuleName) (values : List ℕ) →
-    read_text text ≡ assemble rule values (at_least_one (steps_from 3 (pieces 10 after))) → (e : Halt Fault) → ReadsSteps after (Err e) → Reads text (Err e)
+    read_text text ≡ assemble rule values (at_least_one (steps_from FIRST_STEP (pieces 10 after))) → (e : Halt Fault) → ReadsSteps after (Err e) →
+    Reads text (Err e)
 steps_fail text short after rule values is (Refused f) h = is ∙ ap (assemble rule values) h
 steps_fail text short after rule values is NoMemory h = short

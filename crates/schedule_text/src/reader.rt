@@ -4,7 +4,8 @@ ghost use Rattle.std.specs.List.{position};
 ghost use Rattle.std.specs.Option.{option_map};
 ghost use Rattle.schedule_text.specs.declared.reader.TheConstants.{MAX_BYTES};
 ghost use Rattle.schedule_text.specs.declared.types.Fault.TheVariants.{Unfinished};
-ghost use Rattle.schedule_text.specs.Reading.{pieces, digits_after, number_in, rule_line, values_line, step_of, step_line, BeginsWithStep, NoStep, ReadsSteps, Reads};
+ghost use Rattle.schedule_text.specs.Reading.{pieces, digits_after, number_in, rule_line, values_line, step_of, step_line};
+ghost use Rattle.schedule_text.specs.Reading.{BeginsWithStep, NoStep, ReadsSteps, Reads};
 ghost use Rattle.schedule_text.specs.Judging.{ReadingLaws};
 
 use crate::types::{Fault, ReadError, Schedule};

@@ -1,6 +1,7 @@
 use Rattle.std.proofs.Common.{◌≡◌, Some, Err, vec_items, sym, ap, ◌∙◌, arith}
 use Rattle.std.specs.Option.{option_map}
 use Rattle.std.proofs.lemmas.Result.{err_from_is_err_and}
+use Rattle.schedule_text.specs.declared.reader.TheConstants.{FIRST_STEP}
 use Rattle.schedule_text.specs.declared.types.Fault.{Fault}
 use Rattle.schedule_text.specs.Reading.{rule_line, values_line, read_text, pieces, steps_from, at_least_one}
 use Rattle.lists.proofs.Results.{ok_or_error, ok_or_value}
@@ -45,7 +46,7 @@ returns-in_err-values-clause-reads c =
 
 -- both lines are right, and the steps decide
 steps_decide : (c : After-read_steps) → read_text c.args.text.now ≡ assemble c.in_ok-rule.rule (vec_items c.in_ok-values.values)
-    (at_least_one (steps_from 3 (pieces 10 c.in_ok-second.rest.now)))
+    (at_least_one (steps_from FIRST_STEP (pieces 10 c.in_ok-second.rest.now)))
 steps_decide c =
     let values : Some (vec_items c.in_ok-values.values) ≡ values_line c.in_ok-second.second.now =
     ap (option_map vec_items) (ok_or_value c.in_ok-values_line.field-0 _ _ c.in_ok-values.ensures.value) ∙ c.in_ok-values_line.ensures in

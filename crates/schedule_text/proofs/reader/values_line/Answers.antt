@@ -39,7 +39,8 @@ loop-digits-preserved c =
     let line = c.args.line.now in
     let after = one_word_more (words line) _ (vec_items c.push.new.self) _ _ c.in-Some-number.value
     (here (goal.at.loop-digits-preserved c).After-number) c.in-Some-number.ensures (omega (arith, c.loop-digits.values.ok.0)) c.in_ok-push.ensures.items in
-    subst (λ n. ReadSoFar (words line) (vec_items c.push.new.self) (drop n (words line))) (sym (length_push c.loop-digits.yielded c.in-Some-digits.digits)) after
+    subst (λ n. ReadSoFar (words line) (vec_items c.push.new.self) (drop n (words line)))
+    (sym (length_push c.loop-digits.yielded c.in-Some-digits.digits)) after
 
 pub returns : goal.returns
 returns c =
