@@ -2,7 +2,7 @@
 use Rattle.std.proofs.Common.{◌≡◌, refl}
 use Rattle.std.proofs.lemmas.List.{length-replicate}
 use Rattle.protocol.specs.Rows.{letter_cells}
-use Rattle.catalogue.specs.declared.TheConstants.{STATIONS}
+use Rattle.stations.specs.declared.TheConstants.{STATIONS}
 use Rattle.catalogue.specs.declared.RuleName.{RuleName}
 use Rattle.catalogue.specs.declared.RuleName.TheVariants.{Third, Last}
 use Rattle.catalogue.specs.Catalogue.{StateOf, behaviour_of, letter_of, ForAllStations}

@@ -8,7 +8,7 @@ use Rattle.last_rule.specs.declared.State.{State as LastState}
 use Rattle.last_rule.specs.declared.Letter.{Letter as LastLetter}
 use Rattle.last_rule.specs.Last.{last}
 use Rattle.protocol.specs.Rows.{letter_cells}
-use Rattle.catalogue.specs.declared.TheConstants.{STATIONS}
+use Rattle.stations.specs.declared.TheConstants.{STATIONS}
 use Rattle.catalogue.specs.declared.RuleName.{RuleName}
 use Rattle.catalogue.specs.declared.RuleName.TheVariants.{Third, Last}
 

@@ -5,19 +5,18 @@ ghost use Rattle.std.specs.Prelude.{◌≡◌, List};
 ghost use Rattle.std.specs.Borrow.{Array};
 ghost use Rattle.std.specs.Mem.{FitsInMemory};
 ghost use Rattle.rules.specs.Rule.{Behaviour};
-ghost use Rattle.catalogue.specs.declared.TheConstants.{STATIONS, LETTERS};
+ghost use Rattle.stations.specs.declared.TheConstants.{STATIONS};
+ghost use Rattle.catalogue.specs.declared.TheConstants.{LETTERS};
 ghost use Rattle.catalogue.specs.Names.{name_in, NamesReadBack};
 ghost use Rattle.catalogue.specs.Catalogue.{behaviour_of, states_of, letters_of, new_states, new_letters, ForAllStations};
 
 use last::Last;
 use rules::Rule;
+use stations::STATIONS;
 use std::str::from_utf8;
 use third::Third;
 
-/// The stations of a new shed, as many as a rule can have.
-pub const STATIONS: usize = 16;
-
-// The cells for their letters: for each station a row with a letter of each, and one that it holds.
+// The cells for the letters of a new shed: for each station a row with a letter of each, and one that it holds.
 const LETTERS: usize = STATIONS * (STATIONS + 1);
 
 /// The name of a rule.

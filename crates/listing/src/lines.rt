@@ -1,5 +1,6 @@
 // The lines of the listing.
 ghost use Rattle.std.specs.Prelude.{◌≡◌, ◌+◌, ◌<◌, ◌≤◌, ◌++◌, length, decimal};
+ghost use Rattle.stations.specs.declared.TheConstants.{STATIONS};
 ghost use Rattle.listing.specs.declared.line.TheConstants.{CELLS};
 ghost use Rattle.listing.specs.Lines.{Holds, line_text, refusal_text, stand_text, hull_text, station_text, book_text, fault_text};
 
@@ -57,7 +58,7 @@ fn hull_into(out: &mut Line, hull: Option<u16>)
 // The line of a station: what is seen of it, and its reception in hundredths.
 #[tactic(auto, using(crate::proofs::Filling::short))]
 pub(crate) fn station_line(station: usize, sight: Sight, air: usize) -> Line
-    requires { (station < 16) × (air < 10000) }
+    requires { (station < STATIONS) × (air < 10000) }
     ensures { Holds result (station_text station sight air) }
 {
     let mut out = Line::blank();

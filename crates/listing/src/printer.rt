@@ -1,5 +1,6 @@
 // The whole listing.
 ghost use Rattle.std.specs.Prelude.{◌≡◌, ◌≤◌, ◌++◌, length, IfOk, OnOk};
+ghost use Rattle.stations.specs.declared.TheConstants.{STATIONS};
 ghost use Rattle.protocol.specs.declared.TheConstants.{MAX_BOOK};
 ghost use Rattle.listing.specs.Listing.{printed_line, refusals_text, stations_from, listing_text, fault_listing_text};
 
@@ -34,7 +35,7 @@ pub struct Report<'a> {
     pub refused: Vec<RefusedStep>,
     pub stations: Vec<Sight>,
     pub book: &'a [u64],
-    ghost few: { length stations.items ≤ 16 },
+    ghost few: { length stations.items ≤ STATIONS },
     ghost short: { length book.now ≤ MAX_BOOK },
 }
 

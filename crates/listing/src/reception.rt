@@ -45,7 +45,7 @@ fn quotient(part: usize, whole: usize) -> usize
 pub(crate) fn reception(n: usize, station: usize, book: &[u64]) -> usize
     requires { (0 < n) × ((n ≤ STATIONS) × (length book.now ≤ MAX_BOOK)) }
     ensures is { result ≡ reception_of n station book.now }
-    ensures few { result ≤ 1600 }
+    ensures few { result ≤ 100 * STATIONS }
 {
     let (turns, heard) = count_turns(station, book);
     if turns == 0 {

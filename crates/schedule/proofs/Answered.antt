@@ -4,7 +4,7 @@ use Rattle.std.proofs.Common.{mul-le-mul, arith}
 use Rattle.std.specs.declared.alloc.Global.{Global}
 use Rattle.std.proofs.lemmas.List.{length-replicate}
 use Rattle.protocol.specs.Rows.{row_cells, letter_cells}
-use Rattle.catalogue.specs.declared.TheConstants.{STATIONS}
+use Rattle.stations.specs.declared.TheConstants.{STATIONS}
 use Rattle.catalogue.specs.Catalogue.{behaviour_of, states_of, letters_of}
 use Rattle.catalogue.proofs.Catalogued.{for_all_stations}
 use Rattle.schedule_text.specs.declared.reader.TheConstants.{MAX_VALUES}

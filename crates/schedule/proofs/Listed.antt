@@ -6,6 +6,7 @@ use Rattle.lists.specs.Lists.{tabulate}
 use Rattle.rules.specs.Rule.{Behaviour, Interface}
 use Rattle.lists.proofs.Options.{none_some}
 use Rattle.lists.proofs.Tables.{length_tabulate, put_whole}
+use Rattle.stations.specs.declared.TheConstants.{STATIONS}
 use Rattle.protocol.specs.declared.TheConstants.{MAX_BOOK}
 use Rattle.protocol.specs.declared.refusal.Refusal.{Refusal}
 use Rattle.protocol.specs.declared.types.Sight.{Sight}
@@ -88,7 +89,7 @@ module _ {S L : Type 0} (R : Behaviour S L) (new : World S L) (values : List ℕ
         let sum : length (over R new values steps).book ≡ length (map entry ts) + length free = ap length g.recorded ∙ length-append (map entry ts) free in
         omega (arith, entries_are, ap length book_is, sum, length-map ts entry, g.filled)
 
-    pub values_few : Interface R → length values ≤ 16
+    pub values_few : Interface R → length values ≤ STATIONS
     values_few face = omega (arith, face.most_few, (accepted R new values ran.opens).few)
 
     pub book_short : length left.book.now ≤ MAX_BOOK

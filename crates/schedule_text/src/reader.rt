@@ -11,13 +11,14 @@ ghost use Rattle.schedule_text.specs.Judging.{ReadingLaws};
 use crate::types::{Fault, ReadError, Schedule};
 use catalogue::{RuleName, read_name};
 use protocol::types::Step;
+use stations::STATIONS;
 use std::alloc::{AllocError, Global};
 
 /// The most bytes of a text.
 pub const MAX_BYTES: usize = 65536;
 
 /// The most opening values, one for each station.
-pub const MAX_VALUES: usize = 16;
+pub const MAX_VALUES: usize = STATIONS;
 
 /// The number of the first line that has a step.
 pub const FIRST_STEP: usize = 3;
