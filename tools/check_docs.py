@@ -189,9 +189,11 @@ CONSTANTS = {
 def check_numbers():
     """Constants and the numbers of refusals and faults are told as the code has them."""
     code = "\n".join(path.read_text("utf-8") for path in sorted(pathlib.Path("crates").glob("*/src/**/*.rt")))
+    values = dict(re.findall(r"const (\w+): \w+ = (\w+);", code))
     for name, page in CONSTANTS.items():
-        value = re.search(rf"const {name}: \w+ = ([\d_]+);", code)
-        if not value or not re.search(rf"(?<![\d,]){int(value.group(1)):,}(?![\d,]*\d)", pathlib.Path(page).read_text("utf-8")):
+        value = values.get(name, "")
+        value = values.get(value, value)
+        if not value.isdigit() or not re.search(rf"(?<![\d,]){int(value):,}(?![\d,]*\d)", pathlib.Path(page).read_text("utf-8")):
             wrong(page, 0, f"{name} is not told")
     table = dict(re.findall(r"^    (\w+) = (\d+),", pathlib.Path("crates/refusal_numbers/src/lib.rt").read_text("utf-8"), re.M))
     told = {name: number for number, name in re.findall(r"^\| (\d+) \| `Refusal::(\w+)` \|", pathlib.Path("docs/CALLS.md").read_text("utf-8"), re.M)}
