@@ -175,6 +175,7 @@ impl Rule for Last {
             return None;
         }
         let coordinator = coordinator_of(n, round);
+        // by the round of its phase, the first being 0
         match round % PHASE {
             0 if receiver == coordinator => Some(Letter {
                 value: state.value,
@@ -212,6 +213,7 @@ impl Rule for Last {
         }
         let coordinator = coordinator_of(n, round);
         let coordinates = station == coordinator;
+        // by the round of its phase, the first being 0
         match round % PHASE {
             0 if coordinates => collected(n, state, mailbox),
             1 => adopted(round, state, mailbox[coordinator]),

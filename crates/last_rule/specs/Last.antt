@@ -59,19 +59,19 @@ latest m = latest_from 0 None m
 
 -- ---- what a round makes of a state
 abbrev pub committed_to : (vote : ℕ) → State → State
-committed_to v s = record { value = s.value; stamp = s.stamp; vote = v; committed = true; ready = s.ready; hull = s.hull }
+committed_to v s = record s { vote = v; committed = true }
 
 abbrev pub adopting : (value stamp : ℕ) → State → State
-adopting v x s = record { value = v; stamp = x; vote = s.vote; committed = s.committed; ready = s.ready; hull = s.hull }
+adopting v x s = record s { value = v; stamp = x }
 
 abbrev pub readied : State → State
-readied s = record { value = s.value; stamp = s.stamp; vote = s.vote; committed = s.committed; ready = true; hull = s.hull }
+readied s = record s { ready = true }
 
 abbrev pub showing : Option ℕ → State → State
-showing h s = record { value = s.value; stamp = s.stamp; vote = s.vote; committed = s.committed; ready = s.ready; hull = h }
+showing h s = record s { hull = h }
 
 abbrev pub unmarked : State → State
-unmarked s = record { value = s.value; stamp = s.stamp; vote = s.vote; committed = false; ready = false; hull = s.hull }
+unmarked s = record s { committed = false; ready = false }
 
 -- ---- the next states of the four rounds
 -- a coordinator commits to the value that it chose

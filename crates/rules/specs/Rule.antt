@@ -7,10 +7,6 @@ use Rattle.std.specs.contracts.option.Option.{the_row as option}
 use Rattle.lists.specs.Lists.{tabulate}
 use Rattle.rules.specs.declared.TheConstants.{LAST_ROUND}
 
--- a mailbox of sixteen places, each with such a letter or nothing, fits in memory
-abbrev pub MailboxRoom : RattleType → Type 0
-MailboxRoom letter = FitsInMemory (Array (option letter) 16)
-
 -- ---- a rule
 -- n is the number of stations, S the kind of a station's state, L the kind of a letter
 pub record Behaviour (S L : Type 0) : Type 0 where
@@ -103,17 +99,20 @@ pub record Laws {S L : Type 0} (R : Behaviour S L) (letter_fits : L → Bool) : 
   pub agreement : Agreement R
   pub validity : Validity R
 
--- ---- ranges
+-- ---- ranges and memory
 -- A behaviour is of whole numbers, and a number in a cell has an end. The codec's law is asked of the letters that the
--- cells can hold, so it says of a letter that travels what it has to, if each letter that is written is one of those.
+-- cells can hold. It says what it has to of each letter that travels, since what a rule writes is one of those.
 abbrev pub MailFits : {L : Type 0} → (L → Bool) → List (Option L) → Type 0
 MailFits {L} fits mailbox = (q : ℕ) (l : L) → slice_index_or mailbox q None ≡ Some l → T (fits l)
 
 pub record Ranges {S L : Type 0} (R : Behaviour S L) (letter_fits : L → Bool) : Type 0 where
   -- the states that the cells can hold
   pub state_fits : S → Bool
-  -- a first state from an opening value is one of them, what such a state writes is within its ranges, and the next state
-  -- is such a state again
-  pub first_fits : (n p v : ℕ) → v < 2 ^ 16 → T (state_fits (R.first n p v))
-  pub sent_fits : (n p k q : ℕ) (s : S) (l : L) → T (state_fits s) → R.letter n p k s q ≡ Some l → T (letter_fits l)
-  pub next_fits : (n p k : ℕ) (s : S) (m : List (Option L)) → T (state_fits s) → MailFits letter_fits m → T (state_fits (R.next n p k s m))
+  -- a first state is one of them, such a state writes letters within their ranges, and its next state is one again
+  pub first_fits : (n station value : ℕ) → value < 2 ^ 16 → T (state_fits (R.first n station value))
+  pub sent_fits : (n sender round receiver : ℕ) (s : S) (l : L) → T (state_fits s) → R.letter n sender round s receiver ≡ Some l → T (letter_fits l)
+  pub next_fits : (n station round : ℕ) (s : S) (m : List (Option L)) → T (state_fits s) → MailFits letter_fits m → T (state_fits (R.next n station round s m))
+
+-- Who makes a mailbox of sixteen places, each with a letter or nothing, does not know how large a letter is: it fits in memory.
+abbrev pub MailboxRoom : RattleType → Type 0
+MailboxRoom letter = FitsInMemory (Array (option letter) 16)
