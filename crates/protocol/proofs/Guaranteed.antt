@@ -1,7 +1,7 @@
 -- The guarantee, from the invariant after every list of calls.
-use Rattle.std.proofs.Common.{◌≡◌, ℕ, ◌-◌, ◌^◌, ◌<◌, ◌≤◌, Bool, List, [], ◌∷◌, ◌++◌, length, get_or, Some, None, Option, sym, refl, ap, ◌∙◌, arith}
+use Rattle.std.proofs.Common.{◌≡◌, ℕ, ◌-◌, ◌^◌, ◌<◌, ◌≤◌, Bool, List, [], ◌∷◌, ◌++◌, map, length, get_or, replicate, Some, None, Option, sym, refl, ap, ◌∙◌, arith}
 use mathlib.Core.Path.{fun_ext}
-use Rattle.std.proofs.lemmas.List.{length-replicate}
+use Rattle.std.proofs.lemmas.List.{length-append, length-map, length-replicate}
 use Rattle.rules.specs.Rule.{Behaviour, Laws, Ranges, Heard, Opening, lockstep}
 use Rattle.frames.specs.Book.{book_heard}
 use Rattle.protocol.specs.declared.refusal.Refusal.{Refusal}
@@ -10,7 +10,7 @@ use Rattle.protocol.specs.declared.types.Step.TheVariants.{Send, Deliver, Drop, 
 use Rattle.protocol.specs.World.{World, station}
 use Rattle.protocol.specs.Calls.{step, after, refusals, opened, state_of}
 use Rattle.protocol.specs.Tally.{Tally, heard_in, start, tally, tally_accepted}
-use Rattle.protocol.specs.Guarantee.{Guaranteed, accepted_turns, turns_by}
+use Rattle.protocol.specs.Guarantee.{Guaranteed, Sized, entry, accepted_turns, turns_by}
 use Rattle.protocol.proofs.Words.{book_agrees}
 use Rattle.protocol.proofs.EachTurn.{Counts, stations_of, tally_turns, tally_counts, start_counts, entry_for_each}
 use Rattle.rules.proofs.Runs.{Known, hull_stays}
@@ -20,7 +20,7 @@ use Rattle.protocol.proofs.Pool.{dropped, repeated}
 use Rattle.protocol.proofs.Crash.{crashed}
 use Rattle.protocol.proofs.Deliver.{delivered}
 use Rattle.protocol.proofs.Send.{sends}
-use Rattle.protocol.proofs.Sizes.{after_sizes, looks}
+use Rattle.protocol.proofs.Sizes.{stays_sized, looks}
 use Rattle.protocol.proofs.Turn.{turns, turn_grows}
 
 module _ {S L : Type 0} (R : Behaviour S L) (values : List ℕ) where
@@ -82,6 +82,7 @@ guaranteed {S} {L} R letter_fits face laws ranges new values small fine calls =
     let v : World S L = after R w calls in
     let u : Tally = tally R values start calls (refusals R w calls) in
     let i : Inv R values B v u = (run R laws ranges values small few B calls w start (started R face new values fine)).0 in
+    let sized : Sized R values v = stays_sized R new values calls fine in
     let H : Heard = heard_in u.triples in
     let turns : stations_of u.triples ≡ accepted_turns calls (refusals R w calls) = tally_turns R values calls (refusals R w calls) start in
     let counts : Counts u = tally_counts R values calls (refusals R w calls) start start_counts in
@@ -91,10 +92,11 @@ guaranteed {S} {L} R letter_fits face laws ranges new values small fine calls =
       in_order = rw (i.entries_are, i.book_is) (entry_for_each u (accepted_turns calls (refusals R w calls)) (B - length u.triples) turns i.whole counts);
       recorded = rw (length-replicate {A = ℕ} (length new.book) 0) i.book_is;
       filled = i.entries_are;
+      fits = omega (arith, i.entries_are, ap length i.book_is, length-append (map entry u.triples) (replicate (B - length u.triples) 0), length-map u.triples entry);
       counted = λ p h. (i.seats p h).round ∙ counts.rounds p ∙ ap (turns_by p) turns;
       limited = λ p h. omega (arith, (i.seats p h).round, (i.seats p h).limit);
-      sized = after_sizes R w calls;
-      seen = λ p h. looks R new values calls p fine h;
+      sized = sized;
+      seen = λ p h. looks R values v p sized h;
       refined = λ p h.
           let same : book_heard v.book ≡ H = ap book_heard i.book_is ∙ fun_ext (λ x. fun_ext (λ k. fun_ext (λ q. book_agrees u.triples (B - length u.triples) x k q i.whole))) in
           state p h ∙ ap (λ k. lockstep R values H k p) (sym (i.seats p h).round) ∙ ap (λ (G : Heard). lockstep R values G (station v p).round p) (sym same);

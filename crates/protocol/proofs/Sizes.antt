@@ -15,13 +15,12 @@ use Rattle.protocol.specs.declared.types.Stand.TheVariants.{Down}
 use Rattle.protocol.specs.declared.types.Step.{Step}
 use Rattle.protocol.specs.declared.types.Step.TheVariants.{Send, Deliver, Drop, Repeat, Turn, Crash}
 use Rattle.protocol.specs.World.{World, station}
-use Rattle.protocol.specs.Guarantee.{SameSizes}
+use Rattle.protocol.specs.Guarantee.{Sized}
 use Rattle.protocol.specs.Refusals.{attempt}
 use Rattle.protocol.proofs.Outcomes.{attempt_by, deliver_by}
 use Rattle.protocol.specs.Rows.{letter_cells, letter_cell, held_cell}
 use Rattle.protocol.specs.Records.{due}
 use Rattle.protocol.specs.Calls.{taken_in, received_letters, opened, open_refusal, look_refusal, look_call, sight_of, frames_of, sent, send_refusal, without_frame, received, place_refusal, repeat_refusal, with_pool, with_stations, turned, turn_refusal, crash_refusal, step, after}
-use Rattle.protocol.proofs.Invariant.{Matched}
 
 -- ---- lengths of cells
 length_taken_out : (xs : List ℕ) (c k : ℕ) → length (take_out 0 xs c k) ≡ length xs
@@ -45,6 +44,16 @@ module _ {L : Type 0} where
 
 -- ---- calls
 module _ {S L : Type 0} (R : Behaviour S L) where
+  -- the number of stations, the lengths at opening, and how long each buffer is
+  record SameSizes (w v : World S L) : Type 0 where
+    pub n : v.n ≡ w.n
+    pub pool_len : v.pool_len ≡ w.pool_len
+    pub book_len : v.book_len ≡ w.book_len
+    pub states : length v.states ≡ length w.states
+    pub letters : length v.letters ≡ length w.letters
+    pub pool : length v.pool ≡ length w.pool
+    pub book : length v.book ≡ length w.book
+
   same : (w : World S L) → SameSizes w w
   same w = record { n = refl; pool_len = refl; book_len = refl; states = refl; letters = refl; pool = refl; book = refl }
 
@@ -101,41 +110,55 @@ module _ {S L : Type 0} (R : Behaviour S L) where
   step_sizes w (Turn p) = kept w (turned R w p) (turn_refusal R w p) ((station w p).round + 1) (turned_sizes w p)
   step_sizes w (Crash p) = kept w (crashed w p) (crash_refusal R w p) 0 (crashed_sizes w p)
 
-  pub after_sizes : (w : World S L) (cs : List Step) → SameSizes w (after R w cs)
+  after_sizes : (w : World S L) (cs : List Step) → SameSizes w (after R w cs)
   unfolding after
   after_sizes w [] = same w
   after_sizes w (c ∷ cs) = then w (step R w c).1 (after R (step R w c).1 cs) (step_sizes w c) (after_sizes (step R w c).1 cs)
 
   -- ---- after an accepted opening
-  opened_matched : (new : World S L) (values : List ℕ) → open_refusal R new values ≡ None → Matched R (opened R new values)
-  opened_matched new values fine =
+  opened_sized : (new : World S L) (values : List ℕ) → open_refusal R new values ≡ None → Sized R values (opened R new values)
+  opened_sized new values fine =
       let n : ℕ = length values in
       let first : ℕ → S = λ p. R.first n p (get_or values p 0) in
-      let letters : letter_cells n ≤ length new.letters = grind (arith, nat_tests, fine) in
       record {
+        some = grind (arith, nat_tests, fine);
+        few = grind (arith, nat_tests, fine);
+        stations = refl;
         states = omega (arith, length-append (tabulate n first) (drop n new.states), length_tabulate n first);
-        letters = letters;
+        letters = grind (arith, nat_tests, fine);
         pool = length-replicate (length new.pool) 0;
+        pool_some = grind (arith, nat_tests, fine);
+        pool_few = grind (arith, nat_tests, fine);
         book = length-replicate (length new.book) 0;
+        book_few = grind (arith, nat_tests, fine);
       }
 
-  matched_too : (w v : World S L) → SameSizes w v → Matched R w → Matched R v
-  matched_too w v s m = record {
-    states = rw (s.n, s.states) m.states;
-    letters = rw (s.n, s.letters) m.letters;
-    pool = s.pool ∙ m.pool ∙ sym s.pool_len;
-    book = s.book ∙ m.book ∙ sym s.book_len;
+  sized_too : (values : List ℕ) (w v : World S L) → SameSizes w v → Sized R values w → Sized R values v
+  sized_too values w v s z = record {
+    some = z.some;
+    few = z.few;
+    stations = s.n ∙ z.stations;
+    states = rw s.states z.states;
+    letters = rw s.letters z.letters;
+    pool = s.pool ∙ z.pool ∙ sym s.pool_len;
+    pool_some = rw s.pool_len z.pool_some;
+    pool_few = rw s.pool_len z.pool_few;
+    book = s.book ∙ z.book ∙ sym s.book_len;
+    book_few = rw s.book_len z.book_few;
   }
 
-  look_fine : (w : World S L) (p : ℕ) → Matched R w → p < w.n → look_refusal R w p ≡ None
-  look_fine w p m h = grind (arith, nat_tests, m.states, m.letters, m.pool, m.book)
-
-  -- whoever looks at a station after any calls sees it
-  pub looks : (new : World S L) (values : List ℕ) (cs : List Step) (p : ℕ) → open_refusal R new values ≡ None → p < length values →
-      let w : World S L = after R (opened R new values) cs in look_call R w p ≡ (Ok (sight_of R w p), w)
-  looks new values cs p fine h =
+  pub stays_sized : (new : World S L) (values : List ℕ) (cs : List Step) → open_refusal R new values ≡ None → Sized R values (after R (opened R new values) cs)
+  stays_sized new values cs fine =
       let first : World S L = opened R new values in
-      let w : World S L = after R first cs in
-      let s = after_sizes first cs in
-      let none : look_refusal R w p ≡ None = look_fine w p (matched_too first w s (opened_matched new values fine)) (rw s.n h) in
-      ap (λ o. attempt w o (sight_of R w p) w) none
+      sized_too values first (after R first cs) (after_sizes first cs) (opened_sized new values fine)
+
+  look_accepted : (values : List ℕ) (w : World S L) (p : ℕ) → Sized R values w → p < length values → look_refusal R w p ≡ None
+  look_accepted values w p z h =
+      let states : w.n ≤ length w.states = rw z.stations z.states in
+      let letters : letter_cells w.n ≤ length w.letters = rw z.stations z.letters in
+      let below : p < w.n = rw z.stations h in
+      grind (arith, nat_tests, states, letters, below, z.pool, z.book)
+
+  -- whoever looks at a station sees it
+  pub looks : (values : List ℕ) (w : World S L) (p : ℕ) → Sized R values w → p < length values → look_call R w p ≡ (Ok (sight_of R w p), w)
+  looks values w p z h = ap (λ o. attempt w o (sight_of R w p) w) (look_accepted values w p z h)

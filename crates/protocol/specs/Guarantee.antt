@@ -6,6 +6,8 @@ use Rattle.protocol.specs.declared.refusal.Refusal.{Refusal}
 use Rattle.protocol.specs.declared.types.Step.{Step}
 use Rattle.protocol.specs.declared.types.Step.TheVariants.{Send, Deliver, Drop, Repeat, Turn, Crash}
 use Rattle.frames.specs.Book.{entry_word, read_entry, book_heard}
+use Rattle.protocol.specs.declared.TheConstants.{MAX_POOL, MAX_BOOK}
+use Rattle.protocol.specs.Rows.{letter_cells}
 use Rattle.protocol.specs.World.{World, station}
 use Rattle.protocol.specs.Calls.{open_refusal, opened, after, refusals, state_of, sight_of, look_call}
 use Rattle.protocol.specs.Tally.{Tally, Triple, start, tally}
@@ -38,16 +40,20 @@ pub record EntryForEach (turns : List ℕ) (entries : ℕ) (book : List ℕ) : T
   pub station : (i : ℕ) → i < length turns → (read_entry (slice_index book i)).0 ≡ slice_index turns i
   pub round : (i : ℕ) → i < length turns → (read_entry (slice_index book i)).1 ≡ turns_by (slice_index turns i) (take i turns)
 
--- ---- what no call changes
--- the number of stations, the lengths at opening, and how long each buffer is
-pub record SameSizes {S L : Type 0} (w v : World S L) : Type 0 where
-  pub n : v.n ≡ w.n
-  pub pool_len : v.pool_len ≡ w.pool_len
-  pub book_len : v.book_len ≡ w.book_len
-  pub states : length v.states ≡ length w.states
-  pub letters : length v.letters ≡ length w.letters
-  pub pool : length v.pool ≡ length w.pool
-  pub book : length v.book ≡ length w.book
+-- ---- sizes
+-- an open shed: it has 1 to most stations, a state and a row of letters for each, and a pool and a book of as many words
+-- as at its opening
+pub record Sized {S L : Type 0} (R : Behaviour S L) (values : List ℕ) (w : World S L) : Type 0 where
+  pub some : 1 ≤ length values
+  pub few : length values ≤ R.most
+  pub stations : w.n ≡ length values
+  pub states : length values ≤ length w.states
+  pub letters : letter_cells (length values) ≤ length w.letters
+  pub pool : length w.pool ≡ w.pool_len
+  pub pool_some : 1 ≤ w.pool_len
+  pub pool_few : w.pool_len ≤ MAX_POOL
+  pub book : length w.book ≡ w.book_len
+  pub book_few : w.book_len ≤ MAX_BOOK
 
 -- ---- the guarantee
 -- the book's word of a triple
@@ -80,11 +86,12 @@ module _ {S L : Type 0} (R : Behaviour S L) (values : List ℕ) (w : World S L) 
     -- each entry names exactly the senders that the tally noted for its station and round; then come zeros
     pub recorded : (left calls).book ≡ map entry (tally_of calls).triples ++ replicate (length w.book - length (tally_of calls).triples) 0
     pub filled : (left calls).entries ≡ length (tally_of calls).triples
+    pub fits : (left calls).entries ≤ length (left calls).book
     -- each station's round is the number of its accepted turns, and none is past the last
     pub counted : (p : ℕ) → p < length values → round_of calls p ≡ turns_by p (turns_in calls)
     pub limited : (p : ℕ) → p < length values → round_of calls p ≤ LAST_ROUND
-    -- no call changes a size, and a look at a station is never refused: it answers the stand, the round and the hull or none
-    pub sized : SameSizes w (left calls)
+    -- the shed stays open, and a look at a station is never refused: it answers the stand, the round and the hull or none
+    pub sized : Sized R values (left calls)
     pub seen : (p : ℕ) → p < length values → look_call R (left calls) p ≡ (Ok (sight_of R (left calls) p), left calls)
     -- one lockstep run, over the senders that the book names, gives each station's state at its round
     pub refined : (p : ℕ) → p < length values → state_of R (left calls) p ≡ lockstep R values (book_heard (left calls).book) (round_of calls p) p

@@ -17,7 +17,6 @@ use Rattle.protocol.specs.Refusals.{attempt}
 use Rattle.protocol.specs.Calls.{opened, after, refusals}
 use Rattle.protocol.specs.Tally.{Triple, start, tally}
 use Rattle.protocol.specs.Guarantee.{Guarantee, entry}
-use Rattle.protocol.proofs.Start.{Opens, opens}
 use Rattle.protocol.proofs.Guaranteed.{guaranteed}
 use Rattle.recount.specs.Recount.{run_refusal, recounted, Buffers, shortest, recount_call}
 use Rattle.recount.specs.Agreeing.{Agrees}
@@ -49,9 +48,8 @@ agrees {S} {L} R {letter_fits} face laws ranges values small words round b answe
     let w : World S L = after R (opened R fresh values) calls in
     let ts : List Triple = (tally R values start calls (refusals R (opened R fresh values) calls)).triples in
     let g : Guarantee R values (opened R fresh values) calls = guaranteed R letter_fits face laws ranges fresh values small fine calls in
-    let o : Opens R fresh values = opens R face fresh values fine in
     let limit : round ≤ 4095 = omega (arith, at, g.limited p h) in
-    let go : run_refusal R.most (length values) (shortest b) (ltb 4095 round) ≡ None = accepts R.most (length values) (shortest b) round o.some o.few long limit in
+    let go : run_refusal R.most (length values) (shortest b) (ltb 4095 round) ≡ None = accepts R.most (length values) (shortest b) round g.sized.some g.sized.few long limit in
     let came : ◌≡◌ {A = Result ℕ Refusal × List S} (answer, cells) (Ok round, recounted R values words round b.states) =
     call ∙ ap (λ r. attempt b.states r round (recounted R values words round b.states)) go in
     let count : w.entries + own.0 ≡ length (map entry ts) + own.0 = omega (arith, g.filled, length-map ts entry) in
