@@ -1,5 +1,6 @@
 // A frame: a letter with its sender, its receiver and its round, as one word.
-ghost use Rattle.std.specs.Prelude.{◌≡◌, ◌<◌, is_some, IfSome};
+ghost use Rattle.std.specs.Prelude.{◌≡◌, ◌<◌, ◌≤◌, is_some, IfSome};
+ghost use Rattle.rules.specs.declared.TheConstants.{LAST_ROUND};
 ghost use Rattle.frames.specs.Frame.{packed_frame, read_frame, readable, ReadsBack, PacksAgain};
 
 use crate::ROUNDS;
@@ -34,7 +35,7 @@ pub fn pack_frame<R: Rule>(
 pub fn read_frame<R: Rule>(rule: &R, n: usize, word: u64) -> Option<(usize, usize, u16, R::Letter)>
     ensures frame { result ≡ read_frame (R.Rule.behaviour rule.now) n word }
     ensures readable { is_some result ≡ readable (R.Rule.behaviour rule.now) n word }
-    ensures below { IfSome result (λ f. (f.0 < n) × (f.1 < n)) }
+    ensures below { IfSome result (λ f. (f.0 < n) × (f.1 < n) × (f.2 ≤ LAST_ROUND)) }
     ensures packs_again { PacksAgain (R.Rule.behaviour rule.now) n word result }
 {
     let sender = (word >> 60) as usize;

@@ -1,6 +1,7 @@
 // The pool: words of which the first are frames. The shed keeps their count and the words are lent for each call, so a
 // struct of both would be made and taken apart in each.
-ghost use Rattle.std.specs.Prelude.{◌≡◌, ◌<◌, cond, length, replicate, IfOk};
+ghost use Rattle.std.specs.Prelude.{◌≡◌, ◌<◌, ◌≤◌, cond, length, replicate, IfOk};
+ghost use Rattle.rules.specs.declared.TheConstants.{LAST_ROUND};
 ghost use Rattle.frames.specs.Pool.{has_place, found, taken_out, added, repeated};
 
 use crate::frame::read_frame;
@@ -37,7 +38,7 @@ pub fn frame_at<R: Rule>(
     place: usize,
 ) -> Result<(usize, usize, u16, R::Letter), PoolRefusal>
     ensures frame { result ≡ found (R.Rule.behaviour rule.now) n pool.now count place }
-    ensures below { IfOk result (λ f. (f.0 < n) × (f.1 < n)) }
+    ensures below { IfOk result (λ f. (f.0 < n) × (f.1 < n) × (f.2 ≤ LAST_ROUND)) }
 {
     check_place(pool, count, place)?;
     read_frame(rule, n, pool[place]).ok_or(PoolRefusal::Unreadable)

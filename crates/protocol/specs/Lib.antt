@@ -3,6 +3,7 @@ pub mod World
 pub mod Rows
 pub mod Records
 pub mod Tests
+pub mod Sound
 pub mod Calls
 pub mod Tally
 pub mod Guarantee

@@ -1,27 +1,74 @@
--- What every record of a table keeps when one of them changes.
-use Rattle.std.proofs.Common.{◌≡◌, ℕ, zero, suc, ◌<◌, ◌≤◌, List, [], ◌∷◌, get_or, set, Some, sym, subst}
+-- The records of a shed stay sound when one of them changes.
+use Rattle.std.proofs.Common.{◌≡◌, ◌∙◌, ℕ, zero, suc, ◌+◌, ◌<◌, ◌≤◌, true, refl, List, [], ◌∷◌, get_or, set, replicate, Some, Option, sym, subst, inl, inr, arith}
+use Rattle.std.proofs.lemmas.Bool.{cases_eq, false≢true}
+use Rattle.lists.proofs.Tables.{get_or_replicate_all}
+use Rattle.lists.proofs.Options.{none_some, same_some}
+use Rattle.stations.specs.Stations.{contains, none, with_station}
+use Rattle.stations.proofs.Members.{contains_none, contains_old}
 use Rattle.protocol.specs.declared.types.Held.{Held}
+use Rattle.protocol.specs.declared.types.Stand.TheVariants.{Fresh, Down}
 use Rattle.protocol.specs.declared.types.StationRecord.{StationRecord}
-use Rattle.protocol.specs.World.{blank}
+use Rattle.protocol.specs.World.{blank, hearing, holding}
+use Rattle.protocol.specs.Sound.{Sound, AllSound}
 
-at_all : (P : StationRecord → Type 0) (rs : List StationRecord) (p q : ℕ) (r : StationRecord) → P (get_or rs q blank) → P r → P (get_or (set rs p r) q blank)
-at_all P [] p q r x y = x
-at_all P (z ∷ rs) zero zero r x y = y
-at_all P (z ∷ rs) zero (suc q) r x y = x
-at_all P (z ∷ rs) (suc p) zero r x y = x
-at_all P (z ∷ rs) (suc p) (suc q) r x y = at_all P rs p q r x y
+at_each : (P : ℕ → StationRecord → Type 0) (rs : List StationRecord) (p q : ℕ) (r : StationRecord) →
+    P q (get_or rs q blank) → P p r → P q (get_or (set rs p r) q blank)
+at_each P [] p q r old new = old
+at_each P (z ∷ rs) zero zero r old new = new
+at_each P (z ∷ rs) zero (suc q) r old new = old
+at_each P (z ∷ rs) (suc p) zero r old new = old
+at_each P (z ∷ rs) (suc p) (suc q) r old new = at_each (λ i. P (suc i)) rs p q r old new
 
-module _ (rs : List StationRecord) (p : ℕ) (r : StationRecord) (after : List StationRecord) (changed : after ≡ set rs p r) where
-  -- every round is at most 4095
-  abbrev Rounds : List StationRecord → Type 0
-  Rounds xs = (q : ℕ) → (get_or xs q blank).round ≤ 4095
+pub changed_sound : (n p : ℕ) (rs after : List StationRecord) (r : StationRecord) → after ≡ set rs p r → AllSound n rs → Sound n p r → AllSound n after
+changed_sound n p rs after r changed old new = subst (AllSound n) (sym changed) (λ q. at_each (Sound n) rs p q r (old q) new)
 
-  pub rounds_kept : Rounds rs → r.round ≤ 4095 → Rounds after
-  rounds_kept all new = subst Rounds (sym changed) (λ q. at_all (λ x. x.round ≤ 4095) rs p q r (all q) new)
+-- ---- the record of a station
+module _ (n p : ℕ) (there : p < n) (s : StationRecord) (old : Sound n p s) where
+  pub hearing_sound : n ≤ 16 → (q : ℕ) → q < n → Sound n p (hearing s q)
+  hearing_sound few q h = record {
+    round = old.round;
+    heard = λ x e. elim (cases_eq x q) [ inl is ↦ rw is h | inr other ↦ old.heard x (sym (contains_old s.heard q (omega arith) x other) ∙ e) ];
+    holder = old.holder;
+    holding = old.holding;
+    past = λ l. absurd (omega arith);
+  }
 
-  -- every held letter's sender is one of n stations
-  abbrev Holds : ℕ → List StationRecord → Type 0
-  Holds n xs = (q : ℕ) (h : Held) → (get_or xs q blank).hold ≡ Some h → h.sender < n
+  pub holding_sound : (h : Held) → h.sender < n → h.round ≤ 4095 → Sound n p (holding s h)
+  holding_sound h sender round = record {
+    round = old.round;
+    heard = old.heard;
+    holder = λ x e. rw (← same_some e) sender;
+    holding = λ x e. rw (← same_some e) round;
+    past = λ l. absurd (omega arith);
+  }
 
-  pub holds_kept : (n : ℕ) → Holds n rs → ((h : Held) → r.hold ≡ Some h → h.sender < n) → Holds n after
-  holds_kept n all new = subst (Holds n) (sym changed) (λ q. at_all (λ x. (h : Held) → x.hold ≡ Some h → h.sender < n) rs p q r (all q) new)
+  pub down_sound : Sound n p (record s { stand = Down })
+  down_sound = record {
+    round = old.round;
+    heard = old.heard;
+    holder = old.holder;
+    holding = old.holding;
+    past = λ l. absurd (omega arith);
+  }
+
+  pub turned_sound : (s.round ≡ 4095 → ⊥) → Sound n p (record s { round = s.round + 1; stand = Fresh; heard = none })
+  turned_sound more = record {
+    round = omega (arith, old.round);
+    heard = λ q e. absurd (false≢true (sym (contains_none q) ∙ e));
+    holder = old.holder;
+    holding = old.holding;
+    past = λ l. absurd (omega arith);
+  }
+
+-- ---- records of stations that did nothing
+blank_sound : (n p : ℕ) → Sound n p blank
+blank_sound n p = record {
+  round = omega arith;
+  heard = λ q e. absurd (false≢true (sym (contains_none q) ∙ e));
+  holder = λ h e. none_some e;
+  holding = λ h e. none_some e;
+  past = λ l. refl;
+}
+
+pub blanks_sound : (n : ℕ) (records : List StationRecord) → records ≡ replicate 16 blank → AllSound n records
+blanks_sound n records e p = rw (e, get_or_replicate_all 16 p blank) (blank_sound n p)

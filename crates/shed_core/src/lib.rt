@@ -3,6 +3,6 @@
 
 pub mod buffers;
 mod cells;
-pub mod rows;
+mod rows;
 pub mod shed;
-pub mod table;
+mod table;

@@ -11,7 +11,7 @@ fn row_cells(n: usize) -> usize
 }
 
 // How many cells the letters of n stations ask for.
-pub fn letter_cells(n: usize) -> usize
+pub(crate) fn letter_cells(n: usize) -> usize
     requires { n ≤ 16 }
     ensures { result ≡ letter_cells n }
 {
@@ -19,7 +19,7 @@ pub fn letter_cells(n: usize) -> usize
 }
 
 // The cell of the letter that station p, one of n, has from q.
-pub fn letter_cell(n: usize, p: usize, q: usize) -> usize
+pub(crate) fn letter_cell(n: usize, p: usize, q: usize) -> usize
     requires { (n ≤ 16) × (p < n) × (q < n) }
     ensures { result ≡ letter_cell n p q }
 {
@@ -27,7 +27,7 @@ pub fn letter_cell(n: usize, p: usize, q: usize) -> usize
 }
 
 // The cell of the letter that station p, one of n, holds.
-pub fn held_cell(n: usize, p: usize) -> usize
+pub(crate) fn held_cell(n: usize, p: usize) -> usize
     requires { (n ≤ 16) × (p < n) }
     ensures { result ≡ held_cell n p }
 {

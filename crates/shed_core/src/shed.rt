@@ -1,7 +1,6 @@
 // The shed: the number of stations, its buffers' lengths, its counts and a record for each station.
-ghost use Rattle.std.specs.Prelude.{◌≡◌, ℕ, ◌<◌, ◌≤◌, Some, slice_index_or};
-ghost use Rattle.protocol.specs.declared.types.Held.{Held};
-ghost use Rattle.protocol.specs.World.{blank};
+ghost use Rattle.std.specs.Prelude.{◌≤◌};
+ghost use Rattle.protocol.specs.Sound.{AllSound};
 
 use crate::table::Table;
 
@@ -27,6 +26,5 @@ pub struct Shed {
     ghost few: { count ≤ 16 },
     ghost framed: { frames ≤ pool_len },
     ghost entered: { entries ≤ book_len },
-    ghost rounds: { (p : ℕ) → (slice_index_or table.records p blank).round ≤ 4095 },
-    ghost held: { (p : ℕ) (h : Held) → (slice_index_or table.records p blank).hold ≡ Some h → h.sender < count },
+    ghost sound: { AllSound count table.records },
 }

@@ -1,5 +1,6 @@
 // A frame reaches its receiver.
-ghost use Rattle.std.specs.Prelude.{◌≡◌, ◌<◌};
+ghost use Rattle.std.specs.Prelude.{◌≡◌, ◌<◌, ◌≤◌};
+ghost use Rattle.rules.specs.declared.TheConstants.{LAST_ROUND};
 ghost use Rattle.shed_core.specs.Of.{world_of, ComesTo, StillLent, SameCounts};
 ghost use Rattle.protocol.specs.Calls.{deliver_call, received_stations, received_letters};
 
@@ -16,7 +17,7 @@ impl Shed {
     // A letter meets its fate: it goes into its sender's cell and the sender is heard, or it is held, or it is gone.
     #[inline(always)]
     fn receive<L: Copy>(&mut self, letters: &mut [L], frame: (usize, usize, u16, L), fate: Fate)
-        requires { (frame.0 < self.old.count) × (frame.1 < self.old.count) }
+        requires { (frame.0 < self.old.count) × (frame.1 < self.old.count) × (frame.2 ≤ LAST_ROUND) }
         ensures counts { SameCounts self.old self.new }
         ensures table { self.new.table.records ≡ received_stations self.old.table.records frame fate }
         ensures row { letters.new ≡ received_letters self.old.count letters.old frame fate }

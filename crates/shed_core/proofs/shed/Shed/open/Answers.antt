@@ -3,6 +3,7 @@ use Rattle.std.proofs.lemmas.List.{length-replicate}
 use Rattle.lists.proofs.Tables.{put_table}
 use Rattle.protocol.specs.Calls.{open_refusal, opened}
 use Rattle.protocol.proofs.Start.{opens}
+use Rattle.shed_core.proofs.Stations.{blanks_sound}
 use Rattle.shed_core.proofs.Worlds.{same_world, accepted}
 use Rattle.shed_core.specs.Of.{world_of}
 use Rattle.shed_core.proofs.shed.Shed.open.Goals as goal
@@ -19,3 +20,6 @@ returns-clause-call g c =
     accepted w (opened R w values) _ (length values) (open_refusal R w values) none
     (same_world refl (ap length c.clear.ensures ∙ length-replicate (length b.pool.now) 0) (ap length c.clear-2.ensures ∙ length-replicate (length b.book.now) 0) refl refl
     c.new.ensures (c.first_states.ensures ∙ put_table (length values) first b.states.now fine.states) refl c.clear.ensures c.clear-2.ensures)
+
+pub invariant_of-self-clause-sound : goal.invariant_of-self-clause-sound
+invariant_of-self-clause-sound g c = blanks_sound (length c.args.values.now) c.new.result.records c.new.ensures

@@ -1,0 +1,20 @@
+-- What a shed never lacks: its records are such as stations of the shed can have.
+use Rattle.std.specs.Prelude.{◌≡◌, ℕ, ◌<◌, ◌≤◌, true, List, Some, slice_index_or}
+use Rattle.stations.specs.Stations.{contains}
+use Rattle.rules.specs.declared.TheConstants.{LAST_ROUND}
+use Rattle.protocol.specs.declared.types.Held.{Held}
+use Rattle.protocol.specs.declared.types.StationRecord.{StationRecord}
+use Rattle.protocol.specs.World.{blank}
+
+-- a record for the place p among those of n stations: no round is past the last, whoever is named is one of the n
+-- stations, and past them nothing is recorded
+pub record Sound (n p : ℕ) (s : StationRecord) : Type 0 where
+  pub round : s.round ≤ LAST_ROUND
+  pub heard : (q : ℕ) → contains s.heard q ≡ true → q < n
+  pub holder : (h : Held) → s.hold ≡ Some h → h.sender < n
+  pub holding : (h : Held) → s.hold ≡ Some h → h.round ≤ LAST_ROUND
+  pub past : n ≤ p → s ≡ blank
+
+-- such are all records
+abbrev pub AllSound : ℕ → List StationRecord → Type 0
+AllSound n records = (p : ℕ) → Sound n p (slice_index_or records p blank)
