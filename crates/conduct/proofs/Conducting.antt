@@ -7,7 +7,8 @@ use Rattle.shed_core.specs.declared.buffers.Buffers.{Buffers}
 use Rattle.protocol.specs.declared.refusal.Refusal.{Refusal}
 use Rattle.protocol.specs.declared.types.Step.{Step}
 use Rattle.shed_core.specs.Of.{world_of, shut_with, ComesTo, IsNew}
-use Rattle.protocol.specs.Calls.{open_refusal, open_call, opened, after, refusals}
+use Rattle.protocol.specs.Steps.{after, refusals}
+use Rattle.protocol.specs.Calls.{open_refusal, open_call, opened}
 use Rattle.conduct.specs.Conduct.{CarriedOut, Conducted}
 use Rattle.shed_core.proofs.Worlds.{same_world}
 use Rattle.protocol.proofs.Outcomes.{was_accepted, was_refused}

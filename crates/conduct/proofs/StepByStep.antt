@@ -8,7 +8,7 @@ use Rattle.protocol.specs.declared.refusal.Refusal.{Refusal}
 use Rattle.protocol.specs.declared.types.Step.{Step}
 use Rattle.protocol.specs.World.{World}
 use Rattle.shed_core.specs.Of.{ComesTo}
-use Rattle.protocol.specs.Calls.{step, after, refusals}
+use Rattle.protocol.specs.Steps.{step, after, refusals}
 
 -- a step comes to what its call comes to
 pub stepped :

@@ -8,7 +8,8 @@ use Rattle.protocol.specs.declared.refusal.Refusal.{Refusal}
 use Rattle.protocol.specs.declared.types.Step.{Step}
 use Rattle.protocol.specs.World.{World}
 use Rattle.shed_core.specs.Of.{world_of}
-use Rattle.protocol.specs.Calls.{open_refusal, opened, after, refusals}
+use Rattle.protocol.specs.Steps.{after, refusals}
+use Rattle.protocol.specs.Calls.{open_refusal, opened}
 use Rattle.protocol.specs.Guarantee.{Guarantee}
 
 -- the four buffers are as they were

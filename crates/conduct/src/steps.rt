@@ -3,7 +3,7 @@ ghost use Rattle.std.specs.Prelude.{◌≡◌};
 ghost use Rattle.std.specs.Result.{result_err};
 ghost use Rattle.lists.specs.Lists.{put};
 ghost use Rattle.shed_core.specs.Of.{world_of, ComesTo, StillLent};
-ghost use Rattle.protocol.specs.Calls.{step, after, refusals};
+ghost use Rattle.protocol.specs.Steps.{step, after, refusals};
 
 use protocol::refusal::Refusal;
 use protocol::types::Step;
@@ -12,7 +12,7 @@ use shed_core::buffers::Buffers;
 use shed_core::shed::Shed;
 
 // Makes the call that a step names. Refused for the call's own reasons, and then nothing is written.
-#[tactic(auto, using(crate::proofs::StepByStep::stepped), unfolding(protocol::specs::Calls::step))]
+#[tactic(auto, using(crate::proofs::StepByStep::stepped), unfolding(protocol::specs::Steps::step))]
 pub fn take_step<R: Rule>(
     shed: &mut Shed,
     rule: &R,

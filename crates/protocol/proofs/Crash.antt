@@ -6,10 +6,11 @@ use Rattle.protocol.specs.declared.types.StationRecord.{StationRecord}
 use Rattle.protocol.specs.declared.types.Stand.TheVariants.{Down}
 use Rattle.protocol.specs.declared.types.Step.TheVariants.{Crash}
 use Rattle.protocol.specs.World.{World, station}
-use Rattle.protocol.specs.Calls.{step, crash_tests, with_stations}
+use Rattle.protocol.specs.Steps.{step}
+use Rattle.protocol.specs.Calls.{crash_tests, with_stations}
 use Rattle.protocol.specs.Tally.{Tally, tally_accepted}
 use Rattle.protocol.proofs.Change.{station_changed}
-use Rattle.protocol.proofs.Invariant.{Inv, Seated, Follows, attempted}
+use Rattle.protocol.proofs.Invariant.{Inv, Follows, attempted}
 use Rattle.protocol.proofs.Outcomes.{none_holds}
 
 module _ {S L : Type 0} (R : Behaviour S L) (values : List ℕ) (B : ℕ) (w : World S L) (t : Tally) (i : Inv R values B w t) where
@@ -21,6 +22,5 @@ module _ {S L : Type 0} (R : Behaviour S L) (values : List ℕ) (B : ℕ) (w : W
       _ 0 t t i (λ fine.
       let b = none_holds (crash_tests R w p) fine in
       let h : p < length values = omega (arith, leb-false w.n p (b 2), i.n_is) in
-      let old : Seated R values w t p = i.seats p h in
       station_changed R values B w t i p (record s { stand = Down }) w.letters t.notes h
-      (λ p' r q e. refl) (λ p' q e l. refl) (record { round = old.round; limit = old.limit; state = old.state; live = λ up. absurd (true≢false up) }))
+      (λ p' r q e. refl) (λ p' q e l. refl) refl (λ up. absurd (true≢false up)))

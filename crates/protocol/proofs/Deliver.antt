@@ -1,8 +1,10 @@
 -- An accepted delivery keeps the invariant: the frame is its slip's, and it meets the fate that the tally's note tells.
-use Rattle.std.proofs.Common.{◌≡◌, ℕ, ◌^◌, ◌<◌, ◌≤◌, Bool, true, false, not, ◌&&◌, ◌||◌, T, eqb, ltb, List, length, get_or, set, Some, sym, refl, ◌∙◌, subst, inl, inr, arith}
+use Rattle.std.proofs.Common.{◌≡◌, ℕ, ◌^◌, ◌<◌, ◌≤◌, Bool, true, false, not, ◌&&◌, ◌||◌, T, eqb, ltb, List, length, get_or, set, Some, sym, refl, ◌∙◌}
+use Rattle.std.proofs.Common.{subst, inl, inr, arith}
 use mathlib.Core.Path.{fun_ext}
 use Rattle.std.specs.Result.{result_err}
-use Rattle.std.proofs.lemmas.Bool.{leb-false, cases_eq, ltb-false, eqb-true, eq-eqb, ne_eqb, le-ltb, false≢true, and_parts, not-true, or_left, or_right, and_from}
+use Rattle.std.proofs.lemmas.Bool.{leb-false, cases_eq, ltb-false, eqb-true, eq-eqb, ne_eqb, le-ltb, false≢true, and_parts, not-true, or_left}
+use Rattle.std.proofs.lemmas.Bool.{or_right, and_from}
 use Rattle.stations.specs.Stations.{contains}
 use Rattle.stations.proofs.Members.{within_more, contains_new, contains_old}
 use Rattle.rules.specs.Rule.{Behaviour, Laws, Ranges, lockstep}
@@ -11,9 +13,11 @@ use Rattle.protocol.specs.declared.types.StationRecord.{StationRecord}
 use Rattle.protocol.specs.declared.types.Fate.{Fate}
 use Rattle.protocol.specs.declared.types.Fate.TheVariants.{Late, Again, Taken, Early}
 use Rattle.protocol.specs.declared.types.Step.TheVariants.{Deliver}
-use Rattle.protocol.specs.World.{World, hearing, holding, station}
+use Rattle.protocol.specs.Records.{hearing, holding}
+use Rattle.protocol.specs.World.{World, station}
 use Rattle.protocol.specs.Rows.{row_cells, letter_cells, letter_cell, held_cell}
-use Rattle.protocol.specs.Calls.{step, taking_tests, without_frame, received, frame_at}
+use Rattle.protocol.specs.Steps.{step}
+use Rattle.protocol.specs.Calls.{taking_tests, without_frame, received, frame_at}
 use Rattle.protocol.specs.Tally.{Tally, Slip, heard_in, nowhere, swap_out, tally_accepted}
 use Rattle.protocol.proofs.Rows.{cell_written, cell_kept}
 use Rattle.frames.proofs.RoundTrip.{reads_back}
@@ -104,32 +108,28 @@ module _ {S L : Type 0} (R : Behaviour S L) (values : List ℕ) (B : ℕ) (w : W
       let hx : x < row_cells w.n = omega (arith, b.sender) in
       let inside : x < 16 = omega (arith, b.sender, few) in
       station_changed R values B w t i s.receiver (hearing old x)
-      (set w.letters (letter_cell w.n s.receiver x) l) (noting t s) to notes_apart (λ p q e hq. cell_kept w.letters w.n s.receiver x l hx p q hq (λ z _. e z)) (record {
-        round = at.round;
-        limit = at.limit;
-        state = at.state;
-        live = λ _. record {
-          within = within_more old.heard x inside a.within;
-          noted = λ r q g. elim (cases_eq q x) [
-            | inl eq ↦ elim (cases_eq r (t.rounds s.receiver)) [
-              | inl er ↦ rw (eq, er) (or_right _ _ (says t s s.receiver (t.rounds s.receiver) x refl now refl (omega (arith, now)))
-                  ∙ sym (or_left _ _ (and_from _ _ (eq-eqb (t.rounds s.receiver) (t.rounds s.receiver) refl) (contains_new old.heard x inside))))
-              | inr er ↦ absorbed _ _ (λ m. absurd (er (sym (said t s s.receiver r q m).1 ∙ now))) ∙ a.noted r q g
-                  ∙ rw (ne_eqb r (t.rounds s.receiver) er)
-            ]
-            | inr eq ↦ absorbed _ _ (λ m. absurd (eq (sym (said t s s.receiver r q m).2))) ∙ a.noted r q g ∙ rw (contains_old old.heard x inside q eq)
-          ];
-          marked = λ q m. elim (cases_eq q x) [
-            | inl eq ↦ rw (eq, cell_written w.letters w.n s.receiver x l hx letters here, ← now) b
-            | inr eq ↦
-                let c = a.marked q (sym (contains_old old.heard x inside q eq) ∙ m) in
-                rw (cell_kept w.letters w.n s.receiver x l hx s.receiver q (omega (arith, c.sender)) (λ _ z. eq z)) c
-          ];
-          holding = λ x y. absurd (none_some (sym taking.free ∙ y));
-          ahead = λ x y. absurd (none_some (sym taking.free ∙ y));
-          later = λ _ x y. absurd (none_some (sym taking.free ∙ y));
-          silent = λ y. absurd (false≢true (sym taking.ready ∙ y));
-        };
+      (set w.letters (letter_cell w.n s.receiver x) l) (noting t s) to notes_apart
+      (λ p q e hq. cell_kept w.letters w.n s.receiver x l hx p q hq (λ z _. e z)) refl (λ _. record {
+        within = within_more old.heard x inside a.within;
+        noted = λ r q g. elim (cases_eq q x) [
+          | inl eq ↦ elim (cases_eq r (t.rounds s.receiver)) [
+            | inl er ↦ rw (eq, er) (or_right _ _ (says t s s.receiver (t.rounds s.receiver) x refl now refl (omega (arith, now)))
+                ∙ sym (or_left _ _ (and_from _ _ (eq-eqb (t.rounds s.receiver) (t.rounds s.receiver) refl) (contains_new old.heard x inside))))
+            | inr er ↦ absorbed _ _ (λ m. absurd (er (sym (said t s s.receiver r q m).1 ∙ now))) ∙ a.noted r q g
+                ∙ rw (ne_eqb r (t.rounds s.receiver) er)
+          ]
+          | inr eq ↦ absorbed _ _ (λ m. absurd (eq (sym (said t s s.receiver r q m).2))) ∙ a.noted r q g ∙ rw (contains_old old.heard x inside q eq)
+        ];
+        marked = λ q m. elim (cases_eq q x) [
+          | inl eq ↦ rw (eq, cell_written w.letters w.n s.receiver x l hx letters here, ← now) b
+          | inr eq ↦
+              let c = a.marked q (sym (contains_old old.heard x inside q eq) ∙ m) in
+              rw (cell_kept w.letters w.n s.receiver x l hx s.receiver q (omega (arith, c.sender)) (λ _ z. eq z)) c
+        ];
+        holding = λ x y. absurd (none_some (sym taking.free ∙ y));
+        ahead = λ x y. absurd (none_some (sym taking.free ∙ y));
+        later = λ _ x y. absurd (none_some (sym taking.free ∙ y));
+        silent = λ y. absurd (false≢true (sym taking.ready ∙ y));
       })
 
   early : Taking old → old.round < s.round → Inv R values B (received R w f Early) (noted t s)
@@ -139,20 +139,17 @@ module _ {S L : Type 0} (R : Behaviour S L) (values : List ℕ) (B : ℕ) (w : W
       let n_is : w.n ≡ length values = i.n_is in
       let ahead : t.rounds s.receiver < s.round = omega (arith, at.round) in
       station_changed R values B w t i s.receiver (holding old (record { sender = s.sender; round = s.round }))
-      (set w.letters (held_cell w.n s.receiver) l) (noting t s) to notes_apart (λ p q e hq. cell_kept w.letters w.n s.receiver w.n l (omega arith) p q hq (λ z _. e z)) (record {
-        round = at.round;
-        limit = at.limit;
-        state = at.state;
-        live = λ _. record {
-          within = a.within;
-          noted = λ r q g. rw (a.noted r q g, taking.free, eq-eqb s.receiver s.receiver refl, le-ltb s.round (t.rounds s.receiver) (omega arith))
-              (early_note (eqb r (t.rounds s.receiver) && contains old.heard q) (eqb s.round r) (eqb s.sender q));
-          marked = λ q m. let c = a.marked q m in rw (cell_kept w.letters w.n s.receiver w.n l (omega arith) s.receiver q (omega (arith, c.sender)) (λ _ z. absurd (omega (arith, c.sender)))) c;
-          holding = λ x y. rw (← same_some y, cell_written w.letters w.n s.receiver w.n l (omega arith) letters here) b;
-          ahead = λ x y. rw (← same_some y) (omega arith);
-          later = λ _ x y. rw (← same_some y) ahead;
-          silent = λ y. absurd (false≢true (sym taking.ready ∙ y));
-        };
+      (set w.letters (held_cell w.n s.receiver) l) (noting t s) to notes_apart
+      (λ p q e hq. cell_kept w.letters w.n s.receiver w.n l (omega arith) p q hq (λ z _. e z)) refl (λ _. record {
+        within = a.within;
+        noted = λ r q g. rw (a.noted r q g, taking.free, eq-eqb s.receiver s.receiver refl, le-ltb s.round (t.rounds s.receiver) (omega arith))
+            (early_note (eqb r (t.rounds s.receiver) && contains old.heard q) (eqb s.round r) (eqb s.sender q));
+        marked = λ q m. let c = a.marked q m in rw
+            (cell_kept w.letters w.n s.receiver w.n l (omega arith) s.receiver q (omega (arith, c.sender)) (λ _ z. absurd (omega (arith, c.sender)))) c;
+        holding = λ x y. rw (← same_some y, cell_written w.letters w.n s.receiver w.n l (omega arith) letters here) b;
+        ahead = λ x y. rw (← same_some y) (omega arith);
+        later = λ _ x y. rw (← same_some y) ahead;
+        silent = λ y. absurd (false≢true (sym taking.ready ∙ y));
       })
 
   met : (x : Fate) → Judged old s.sender s.round x → Inv R values B (received R w f x) (noted t s)
@@ -161,7 +158,8 @@ module _ {S L : Type 0} (R : Behaviour S L) (values : List ℕ) (B : ℕ) (w : W
   met Taken h = taken h.0 h.1
   met Early h = early h.0 h.1
 
-module _ {S L : Type 0} (R : Behaviour S L) {letter_fits : L → Bool} (laws : Laws R letter_fits) (ranges : Ranges R letter_fits) (values : List ℕ) (small : (p : ℕ) → p < length values → get_or values p 0 < 2 ^ 16)
+module _ {S L : Type 0} (R : Behaviour S L) {letter_fits : L → Bool} (laws : Laws R letter_fits) (ranges : Ranges R letter_fits) (values : List ℕ)
+    (small : (p : ℕ) → p < length values → get_or values p 0 < 2 ^ 16)
     (few : length values ≤ 16) (B : ℕ) (w : World S L) (t : Tally) (i : Inv R values B w t) (k : ℕ) where
   abbrev s : Slip
   s = get_or t.slips k nowhere

@@ -8,7 +8,8 @@ use Rattle.protocol.specs.declared.refusal.Refusal.{Refusal}
 use Rattle.protocol.specs.declared.types.Step.{Step}
 use Rattle.protocol.specs.declared.types.Step.TheVariants.{Send, Deliver, Drop, Repeat, Turn, Crash}
 use Rattle.protocol.specs.World.{World, station}
-use Rattle.protocol.specs.Calls.{step, after, refusals, opened, state_of}
+use Rattle.protocol.specs.Steps.{step, after, refusals}
+use Rattle.protocol.specs.Calls.{opened, state_of}
 use Rattle.protocol.specs.Tally.{Tally, heard_in, start, tally, tally_accepted}
 use Rattle.protocol.specs.Guarantee.{Guaranteed, Sized, entry, accepted_turns, turns_by}
 use Rattle.protocol.proofs.Words.{book_agrees}
@@ -44,7 +45,8 @@ module _ {S L : Type 0} (R : Behaviour S L) (values : List ℕ) where
   after_append w [] ds = refl
   after_append w (c ∷ cs) ds = after_append (step R w c).1 cs ds
 
-module _ {S L : Type 0} (R : Behaviour S L) {letter_fits : L → Bool} (laws : Laws R letter_fits) (ranges : Ranges R letter_fits) (values : List ℕ) (small : (p : ℕ) → p < length values → get_or values p 0 < 2 ^ 16)
+module _ {S L : Type 0} (R : Behaviour S L) {letter_fits : L → Bool} (laws : Laws R letter_fits) (ranges : Ranges R letter_fits) (values : List ℕ)
+    (small : (p : ℕ) → p < length values → get_or values p 0 < 2 ^ 16)
     (few : length values ≤ 16) (B : ℕ) where
   follow : (w : World S L) (t : Tally) → Inv R values B w t → (c : Step) → Follows R values B (step R w c).0 (step R w c).1 t (tally_accepted R values t c)
   follow w t i (Send p) = sends R values few B w t i p
@@ -57,7 +59,8 @@ module _ {S L : Type 0} (R : Behaviour S L) {letter_fits : L → Bool} (laws : L
   abbrev Reached : Tally → World S L → Tally → Type 0
   Reached t w u = Inv R values B w u × Grown R values t u
 
-  one : (t : Tally) (c : Step) (cs : List Step) → Known (heard_in t.triples) t.rounds → (o : Option Refusal) (v : World S L) → Follows R values B o v t (tally_accepted R values t c) →
+  one : (t : Tally) (c : Step) (cs : List Step) → Known (heard_in t.triples) t.rounds → (o : Option Refusal) (v : World S L) →
+      Follows R values B o v t (tally_accepted R values t c) →
       ((u : Tally) → Inv R values B v u → Reached u (after R v cs) (tally R values u cs (refusals R v cs))) →
       Reached t (after R v cs) (tally R values t (c ∷ cs) (o ∷ refusals R v cs))
   unfolding tally
@@ -87,7 +90,8 @@ guaranteed {S} {L} R letter_fits face laws ranges new values small fine calls =
     let turns : stations_of u.triples ≡ accepted_turns calls (refusals R w calls) = tally_turns R values calls (refusals R w calls) start in
     let counts : Counts u = tally_counts R values calls (refusals R w calls) start start_counts in
     let state : (p : ℕ) → p < length values → state_of R v p ≡ lockstep R values H (u.rounds p) p = λ p h. (i.seats p h).state in
-    let hull : (p x : ℕ) → p < length values → R.hull (state_of R v p) ≡ Some x → R.hull (lockstep R values H (u.rounds p) p) ≡ Some x = λ p x h e. sym (ap R.hull (state p h)) ∙ e in
+    let hull : (p x : ℕ) → p < length values → R.hull (state_of R v p) ≡ Some x → R.hull (lockstep R values H (u.rounds p) p) ≡ Some x =
+    λ p x h e. sym (ap R.hull (state p h)) ∙ e in
     record {
       in_order = rw (i.entries_are, i.book_is) (entry_for_each u (accepted_turns calls (refusals R w calls)) (B - length u.triples) turns i.whole counts);
       recorded = rw (length-replicate {A = ℕ} (length new.book) 0) i.book_is;
@@ -98,7 +102,8 @@ guaranteed {S} {L} R letter_fits face laws ranges new values small fine calls =
       sized = sized;
       seen = λ p h. looks R values v p sized h;
       refined = λ p h.
-          let same : book_heard v.book ≡ H = ap book_heard i.book_is ∙ fun_ext (λ x. fun_ext (λ k. fun_ext (λ q. book_agrees u.triples (B - length u.triples) x k q i.whole))) in
+          let same : book_heard v.book ≡ H = ap book_heard i.book_is
+          ∙ fun_ext (λ x. fun_ext (λ k. fun_ext (λ q. book_agrees u.triples (B - length u.triples) x k q i.whole))) in
           state p h ∙ ap (λ k. lockstep R values H k p) (sym (i.seats p h).round) ∙ ap (λ (G : Heard). lockstep R values G (station v p).round p) (sym same);
       agreed = λ p q a b hp hq ea eb. laws.agreement values opening H p q (u.rounds p) (u.rounds q) a b hp hq (hull p a hp ea) (hull q b hq eb);
       valid = λ p h hp e. laws.validity values opening H p (u.rounds p) h hp (hull p h hp e);

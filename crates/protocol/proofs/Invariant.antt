@@ -1,5 +1,6 @@
 -- How a world and a tally stand to one another after the same calls, and what stays of that as rounds go by.
-use Rattle.std.proofs.Common.{◌≡◌, ℕ, ◌-◌, ◌<◌, ◌≤◌, Bool, true, false, ◌&&◌, ◌||◌, eqb, List, [], ◌∷◌, ◌++◌, map, length, get_or, replicate, Some, None, Option, sym, ◌∙◌, arith}
+use Rattle.std.proofs.Common.{◌≡◌, ℕ, ◌-◌, ◌<◌, ◌≤◌, Bool, true, false, ◌&&◌, ◌||◌, eqb, List, [], ◌∷◌, ◌++◌, map, length, get_or, replicate, Some}
+use Rattle.std.proofs.Common.{None, Option, sym, ◌∙◌, arith}
 use Rattle.std.specs.Result.{result_err}
 use Rattle.std.specs.List.{slice_get}
 use Rattle.std.proofs.lemmas.Bool.{or_parts, ltb-false, eqb-true, not-false}
@@ -113,7 +114,8 @@ module _ {S L : Type 0} (R : Behaviour S L) (values : List ℕ) where
       live = λ up. let a : Live H rounds notes s n letters p = seat.live up in record {
         within = a.within;
         noted = λ r q h. noted r q ∙ rw same (a.noted r q (rw same at h));
-        marked = λ q m. let b = a.marked q m in rw (el q (omega (arith, b.sender, n_is)), same) (brought_kept (slice_get letters (letter_cell n p q)) q (rounds p) p b);
+        marked = λ q m. let b = a.marked q m in rw (el q (omega (arith, b.sender, n_is)), same)
+            (brought_kept (slice_get letters (letter_cell n p q)) q (rounds p) p b);
         holding = λ h e. rw (el n (omega arith)) (brought_kept (slice_get letters (held_cell n p)) h.sender h.round p (a.holding h e));
         ahead = λ h e. rw same (a.ahead h e);
         later = λ f h e. rw same (a.later f h e);

@@ -8,7 +8,7 @@ use Rattle.protocol.specs.declared.types.Fate.{Fate}
 use Rattle.protocol.specs.declared.types.Fate.TheVariants.{Late, Again, Taken, Early}
 use Rattle.protocol.specs.declared.refusal.Refusal.{Refusal}
 use Rattle.protocol.specs.Records.{is_fresh, is_down, holds}
-use Rattle.protocol.specs.Calls.{judged}
+use Rattle.protocol.specs.Records.{judged}
 
 no_hold : (o : Option Held) → holds o ≡ false → o ≡ None
 no_hold None e = refl
@@ -18,7 +18,8 @@ not_refused : (t : Bool) (r : Refusal) (rest : Result Fate Refusal) (x : Fate) �
 not_refused true r rest x e = absurd (let z : ◌≡◌ {A = ℕ} 0 1 = cc in omega arith)
 not_refused false r rest x e = (refl, e)
 
-fate_by : (P : Fate → Type 0) (t : Bool) (y : Fate) (rest : Result Fate Refusal) (x : Fate) → cond t (Ok y) rest ≡ Ok x → (t ≡ true → P y) → (t ≡ false → rest ≡ Ok x → P x) → P x
+fate_by : (P : Fate → Type 0) (t : Bool) (y : Fate) (rest : Result Fate Refusal) (x : Fate) → cond t (Ok y) rest ≡ Ok x → (t ≡ true → P y) →
+    (t ≡ false → rest ≡ Ok x → P x) → P x
 fate_by P true y rest x e here later = subst P (let same : y ≡ x = cc in same) (here refl)
 fate_by P false y rest x e here later = later refl e
 
@@ -44,4 +45,5 @@ judged_so s q k x e =
     fate_by (Judged s q k) (ltb k s.round) Late _ x c.1 (λ late. ltb-true k s.round late) (λ not_late d.
     fate_by (Judged s q k) (ltb s.round k) Early _ x d (λ early. (taking, ltb-true s.round k early)) (λ not_early f.
     let now : k ≡ s.round = omega (arith, ltb-false k s.round not_late, ltb-false s.round k not_early) in
-    fate_by (Judged s q k) (contains s.heard q) Again _ x f (λ heard. (taking, now, heard)) (λ _ g. subst (Judged s q k) (let same : Taken ≡ x = cc in same) (taking, now))))
+    fate_by (Judged s q k) (contains s.heard q) Again _ x f (λ heard. (taking, now, heard))
+    (λ _ g. subst (Judged s q k) (let same : Taken ≡ x = cc in same) (taking, now))))

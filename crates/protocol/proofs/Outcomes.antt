@@ -8,7 +8,8 @@ use Rattle.protocol.specs.declared.refusal.Refusal.TheVariants.{Shut, Unreadable
 use Rattle.protocol.specs.declared.types.Fate.{Fate}
 use Rattle.protocol.specs.Refusals.{first_refusal, attempt}
 use Rattle.protocol.specs.World.{World, station}
-use Rattle.protocol.specs.Calls.{judged, without_frame, received, settled, delivery, deliver_call, place_refusal, frame_at}
+use Rattle.protocol.specs.Records.{judged}
+use Rattle.protocol.specs.Calls.{without_frame, received, settled, delivery, deliver_call, place_refusal, frame_at}
 
 -- ---- tests
 -- a test that holds before others is the first of all that holds
@@ -43,7 +44,8 @@ module _ {A W : Type 0} (w v : W) (a : A) where
   was_refused (Some g) f e = let same : g ≡ f = cc in (rw same, refl)
 
 -- ---- a delivery
-module _ {S L : Type 0} (R : Behaviour S L) (w : World S L) (k : ℕ) (P : Result Fate Refusal × World S L → Type 0) (refused : (r : Refusal) → P (Err r, w)) where
+module _ {S L : Type 0} (R : Behaviour S L) (w : World S L) (k : ℕ) (P : Result Fate Refusal × World S L → Type 0)
+    (refused : (r : Refusal) → P (Err r, w)) where
   settled_by : (f : Frame L) (o : Result Fate Refusal) → ((x : Fate) → o ≡ Ok x → P (Ok x, received R (without_frame R w k) f x)) → P (settled R w k f o)
   settled_by f (Err r) accepted = refused r
   settled_by f (Ok x) accepted = accepted x refl
@@ -57,6 +59,7 @@ module _ {S L : Type 0} (R : Behaviour S L) (w : World S L) (k : ℕ) (P : Resul
 
   -- every refusal leaves all as it was; otherwise a frame leaves the pool and meets the fate that its receiver judges
   pub deliver_by :
-      (place_refusal R w k ≡ None → (f : Frame L) → frame_at R w k ≡ Some f → (x : Fate) → judged (station w f.1) f.0 f.2 ≡ Ok x → P (Ok x, received R (without_frame R w k) f x)) →
+      (place_refusal R w k ≡ None → (f : Frame L) → frame_at R w k ≡ Some f → (x : Fate) → judged (station w f.1) f.0 f.2 ≡ Ok x →
+      P (Ok x, received R (without_frame R w k) f x)) →
       P (deliver_call R w k)
   deliver_by accepted = delivery_by (place_refusal R w k) (frame_at R w k) accepted

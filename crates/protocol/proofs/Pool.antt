@@ -6,7 +6,8 @@ use Rattle.rules.specs.Rule.{Behaviour}
 use Rattle.frames.specs.Pool.{take_out}
 use Rattle.protocol.specs.declared.types.Step.TheVariants.{Drop, Repeat}
 use Rattle.protocol.specs.World.{World}
-use Rattle.protocol.specs.Calls.{step, taking_tests, repeat_tests, with_pool, without_frame}
+use Rattle.protocol.specs.Steps.{step}
+use Rattle.protocol.specs.Calls.{taking_tests, repeat_tests, with_pool, without_frame}
 use Rattle.protocol.specs.Tally.{Tally, Slip, nowhere, swap_out, tally_accepted}
 use Rattle.protocol.proofs.TakenOut.{length_out, origin}
 use Rattle.protocol.proofs.Change.{pool_changed}
@@ -40,7 +41,11 @@ module _ {S L : Type 0} (R : Behaviour S L) (values : List ℕ) (B : ℕ) (w : W
       let s : Slip = get_or t.slips k nowhere in
       pool_changed R values B w t i (w.frames + 1) (set w.pool w.frames (get_or w.pool k 0)) (t.slips ++ (s ∷ []))
       (rw length_push (omega (arith, i.frames_are))) (omega arith) (λ j l. elim (cases_eq j w.frames) [
-        | inl e ↦ rw (e, get_or_push t.slips s nowhere w.frames (sym i.frames_are), get_or-set_same w.pool w.frames (get_or w.pool k 0) 0 (omega (arith, m.pool)))
+        | inl e ↦ rw (
+          e,
+          get_or_push t.slips s nowhere w.frames (sym i.frames_are),
+          get_or-set_same w.pool w.frames (get_or w.pool k 0) 0 (omega (arith, m.pool)),
+        )
             (i.carried k (omega (arith, i.frames_are)))
         | inr e ↦
             let near : j < length t.slips = omega (arith, i.frames_are, rw length_push at l) in
@@ -52,6 +57,7 @@ module _ {S L : Type 0} (R : Behaviour S L) (values : List ℕ) (B : ℕ) (w : W
 
   pub repeated : (k : ℕ) → Follows R values B (step R w (Repeat k)).0 (step R w (Repeat k)).1 t (tally_accepted R values t (Repeat k))
   unfolding step tally_accepted
-  repeated k = attempted R values B w (with_pool R w (w.frames + 1) (set w.pool w.frames (get_or w.pool k 0))) _ w.frames t (tally_accepted R values t (Repeat k)) i (λ fine.
+  repeated k = attempted R values B w (with_pool R w (w.frames + 1) (set w.pool w.frames (get_or w.pool k 0))) _ w.frames t
+      (tally_accepted R values t (Repeat k)) i (λ fine.
       let b = none_holds (repeat_tests R w k) fine in
       frame_in k (leb-false w.frames k (b 2)) (matched R w (b 1)) (room_left (b 3)))

@@ -19,5 +19,6 @@ module _ {L : Type 0} (letters : List L) (n p i : ℕ) (l : L) (h : i < row_cell
   pub cell_written : letter_cells n ≤ length letters → p < n → slice_get (set letters (row_cell n p i) l) (row_cell n p i) ≡ Some l
   cell_written long there = written_here letters (row_cell n p i) l (omega (arith, cell_within n p i there h))
 
-  pub cell_kept : (p' i' : ℕ) → i' < row_cells n → (p' ≡ p → i' ≡ i → ⊥) → slice_get (set letters (row_cell n p i) l) (row_cell n p' i') ≡ slice_get letters (row_cell n p' i')
+  pub cell_kept : (p' i' : ℕ) → i' < row_cells n → (p' ≡ p → i' ≡ i → ⊥) →
+      slice_get (set letters (row_cell n p i) l) (row_cell n p' i') ≡ slice_get letters (row_cell n p' i')
   cell_kept p' i' h' e = written_elsewhere letters (row_cell n p i) (row_cell n p' i') l (λ z. let a = cells_apart n p' i' p i h' h z in e a.0 a.1)

@@ -1,5 +1,6 @@
 -- An accepted send keeps the invariant: its frames are the tally's slips, and a held letter of the station's round is taken in.
-use Rattle.std.proofs.Common.{◌≡◌, ℕ, zero, suc, ◌+◌, ◌-◌, ◌<◌, ◌≤◌, true, false, ◌&&◌, ◌||◌, eqb, ltb, List, ◌∷◌, ◌++◌, length, get_or, set, Some, None, Option, sym, refl, ap, ◌∙◌, subst, inl, inr, arith}
+use Rattle.std.proofs.Common.{◌≡◌, ℕ, zero, suc, ◌+◌, ◌-◌, ◌<◌, ◌≤◌, true, false, ◌&&◌, ◌||◌, eqb, ltb, List, ◌∷◌, ◌++◌, length, get_or, set, Some}
+use Rattle.std.proofs.Common.{None, Option, sym, refl, ap, ◌∙◌, subst, inl, inr, arith}
 use Rattle.std.proofs.lemmas.List.{length-append, get_or_append_left, get_or-append_right}
 use Rattle.std.proofs.lemmas.Bool.{cases_eq, cases_lt, leb-false, ltb-false, eq-eqb, ne_eqb, true≢false, false≢true, and_right}
 use Rattle.stations.specs.declared.StationSet.{StationSet}
@@ -16,13 +17,15 @@ use Rattle.protocol.specs.declared.types.Step.TheVariants.{Send}
 use Rattle.protocol.specs.World.{World, station}
 use Rattle.protocol.specs.Records.{is_fresh, is_listening, is_down, due}
 use Rattle.protocol.specs.Rows.{row_cells, letter_cells, letter_cell, held_cell}
-use Rattle.protocol.specs.Calls.{step, send_tests, with_pool, with_stations, with_letters, state_of, frames_from, frames_of, send_refusal, sent, listened, taken_in}
+use Rattle.protocol.specs.Records.{listened}
+use Rattle.protocol.specs.Steps.{step}
+use Rattle.protocol.specs.Calls.{send_tests, with_pool, with_stations, with_letters, state_of, frames_from, frames_of, send_refusal, sent, taken_in}
 use Rattle.protocol.specs.Tally.{Tally, Slip, heard_in, nowhere, slips_from, tally_accepted}
 use Rattle.lists.proofs.Tables.{get_or_put_below, get_or_put_in}
 use Rattle.lists.proofs.Places.{something_at}
 use Rattle.protocol.proofs.Rows.{cell_within, cell_written, cell_kept}
 use Rattle.lists.proofs.Options.{none_some}
-use Rattle.protocol.proofs.Holds.{due_some, due_none}
+use Rattle.protocol.proofs.Holds.{held_for_some, held_for_none}
 use Rattle.protocol.proofs.Invariant.{Inv, Carry, Seated, Matched, matched, Follows, attempted}
 use Rattle.protocol.proofs.Outcomes.{none_holds}
 use Rattle.protocol.proofs.Change.{pool_changed, station_changed}
@@ -76,7 +79,8 @@ module _ {S L : Type 0} (R : Behaviour S L) (values : List ℕ) (B : ℕ) (w : W
   pairs q (suc m) l =
       let fs : List ℕ = frames_from R w.n p (station w p).round (state_of R w p) (suc q) m in
       let gs : List Slip = slips_from R values t p (suc q) m in
-      subst (λ o. Pairs (words_with q fs o) (slips_with q gs (ours q))) (sym (letters_same q)) (one q fs gs (omega arith) (pairs (suc q) m (omega arith)) (ours q) refl)
+      subst (λ o. Pairs (words_with q fs o) (slips_with q gs (ours q))) (sym (letters_same q))
+      (one q fs gs (omega arith) (pairs (suc q) m (omega arith)) (ours q) refl)
 
   abbrev ws : List ℕ
   ws = frames_of R w p
@@ -92,7 +96,8 @@ module _ {S L : Type 0} (R : Behaviour S L) (values : List ℕ) (B : ℕ) (w : W
 
   pooled : Matched R w → ltb (w.pool_len - w.frames) (length ws) ≡ false → Inv R values B v t₁
   pooled m e =
-      let ps : Pairs ws ss = subst (λ m. Pairs (frames_from R w.n p (station w p).round (state_of R w p) 0 m) ss) (sym i.n_is) (pairs 0 (length values) (omega arith)) in
+      let ps : Pairs ws ss = subst (λ m. Pairs (frames_from R w.n p (station w p).round (state_of R w p) 0 m) ss) (sym i.n_is)
+      (pairs 0 (length values) (omega arith)) in
       let room : w.frames + length ws ≤ w.pool_len = omega (arith, i.room, ltb-false (w.pool_len - w.frames) (length ws) e) in
       pool_changed R values B w t i (w.frames + length ws) (put w.pool w.frames ws) (t.slips ++ ss)
       (rw length-append (omega (arith, ps.len, i.frames_are))) room (λ j l. elim (cases_lt j w.frames) [
@@ -116,10 +121,12 @@ same_note x r k q s e heard h silent = elim (cases_eq q s) [
     | inl er ↦ rw (e, er, eq, silent s, contains_new heard s h, eq-eqb k k refl, eq-eqb s s refl)
     | inr er ↦ rw (e, ne_eqb r k er, ne_eqb k r (λ z. er (sym z)))
   ]
-  | inr eq ↦ rw (silent q, contains_old heard s h q eq, silent q, ne_eqb s q (λ z. eq (sym z))) (ap (λ y. (eqb r k && false) || y) (and_right (eqb x r) false refl))
+  | inr eq ↦ rw (silent q, contains_old heard s h q eq, silent q, ne_eqb s q (λ z. eq (sym z)))
+      (ap (λ y. (eqb r k && false) || y) (and_right (eqb x r) false refl))
 ]
 
-module _ {S L : Type 0} (R : Behaviour S L) (values : List ℕ) (few : length values ≤ 16) (B : ℕ) (w : World S L) (t : Tally) (i : Inv R values B w t) (letters : letter_cells w.n ≤ length w.letters)
+module _ {S L : Type 0} (R : Behaviour S L) (values : List ℕ) (few : length values ≤ 16) (B : ℕ) (w : World S L) (t : Tally) (i : Inv R values B w t)
+    (letters : letter_cells w.n ≤ length w.letters)
     (p : ℕ) (h : p < length values) (up : is_down (station w p).stand ≡ false) (fresh : is_fresh (station w p).stand ≡ true) where
   abbrev old : StationRecord
   old = station w p
@@ -135,19 +142,14 @@ module _ {S L : Type 0} (R : Behaviour S L) (values : List ℕ) (few : length va
       let at : Seated R values w t p = i.seats p h in
       let a = at.live up in
       station_changed R values B w t i p (record old { stand = Listening }) w.letters t.notes h
-      (λ p' r q e. refl) (λ p' q e l. refl) (record {
-        round = at.round;
-        limit = at.limit;
-        state = at.state;
-        live = λ _. record {
-          within = a.within;
-          noted = a.noted;
-          marked = a.marked;
-          holding = a.holding;
-          ahead = a.ahead;
-          later = λ _ x e. let not_now : (x.round ≡ t.rounds p → ⊥) = λ z. apart x e (z ∙ sym at.round) in omega (arith, a.ahead x e);
-          silent = λ z. absurd (false≢true z);
-        };
+      (λ p' r q e. refl) (λ p' q e l. refl) refl (λ _. record {
+        within = a.within;
+        noted = a.noted;
+        marked = a.marked;
+        holding = a.holding;
+        ahead = a.ahead;
+        later = λ _ x e. let not_now : (x.round ≡ t.rounds p → ⊥) = λ z. apart x e (z ∙ sym at.round) in omega (arith, a.ahead x e);
+        silent = λ z. absurd (false≢true z);
       })
 
   inwards : (x : Held) → old.hold ≡ Some x → x.round ≡ old.round → Inv R values B (inner x.sender) t
@@ -165,29 +167,24 @@ module _ {S L : Type 0} (R : Behaviour S L) (values : List ℕ) (few : length va
       (elim o [ None ↦ w.letters | Some l ↦ set w.letters (letter_cell w.n p x.sender) l ])) t) (sym l.1)
       (station_changed R values B w t i p (record old { stand = Listening; heard = with_station old.heard x.sender; hold = None })
       (set w.letters c l.0) t.notes h (λ p' r q e. refl)
-      (λ p' q d hq. cell_kept w.letters w.n p x.sender l.0 hx p' q hq (λ z _. d z)) (record {
-        round = at.round;
-        limit = at.limit;
-        state = at.state;
-        live = λ _. record {
-          within = within_more old.heard x.sender inside a.within;
-          noted = λ r q g. (rw e at (a.noted r q g)) ∙ same_note x.round r (t.rounds p) q x.sender (now ∙ at.round) old.heard inside (a.silent fresh);
-          marked = λ q m. elim (cases_eq q x.sender) [
-            | inl eq ↦ rw (eq, cell_written w.letters w.n p x.sender l.0 hx letters (omega arith)) (rw (l.1, now ∙ at.round) at b)
-            | inr eq ↦ absurd (false≢true (sym (a.silent fresh q) ∙ sym (contains_old old.heard x.sender inside q eq) ∙ m))
-          ];
-          holding = λ y z. absurd (none_some z);
-          ahead = λ y z. absurd (none_some z);
-          later = λ _ y z. absurd (none_some z);
-          silent = λ z. absurd (false≢true z);
-        };
+      (λ p' q d hq. cell_kept w.letters w.n p x.sender l.0 hx p' q hq (λ z _. d z)) refl (λ _. record {
+        within = within_more old.heard x.sender inside a.within;
+        noted = λ r q g. (rw e at (a.noted r q g)) ∙ same_note x.round r (t.rounds p) q x.sender (now ∙ at.round) old.heard inside (a.silent fresh);
+        marked = λ q m. elim (cases_eq q x.sender) [
+          | inl eq ↦ rw (eq, cell_written w.letters w.n p x.sender l.0 hx letters (omega arith)) (rw (l.1, now ∙ at.round) at b)
+          | inr eq ↦ absurd (false≢true (sym (a.silent fresh q) ∙ sym (contains_old old.heard x.sender inside q eq) ∙ m))
+        ];
+        holding = λ y z. absurd (none_some z);
+        ahead = λ y z. absurd (none_some z);
+        later = λ _ y z. absurd (none_some z);
+        silent = λ z. absurd (false≢true z);
       }))
 
-  begun : (o : Option ℕ) → due old.hold old.round ≡ o →
+  begun : (o : Option ℕ) → due old ≡ o →
       Inv R values B (with_letters R (with_stations R w (set w.stations p (listened old o))) (taken_in w.n p o w.letters)) t
-  begun None e = plainly (λ x z now. due_none old.hold old.round x e z now)
+  begun None e = plainly (λ x z now. held_for_none old.hold old.round x e z now)
   begun (Some q) e =
-      let d = due_some old.hold old.round q e in
+      let d = held_for_some old.hold old.round q e in
       subst (λ y. Inv R values B (inner y) t) d.2 (inwards d.0 d.1 d.3)
 
 module _ {S L : Type 0} (R : Behaviour S L) (values : List ℕ) (few : length values ≤ 16) (B : ℕ) (w : World S L) (t : Tally) (i : Inv R values B w t) where
@@ -198,4 +195,5 @@ module _ {S L : Type 0} (R : Behaviour S L) (values : List ℕ) (few : length va
       let m : Matched R w = matched R w (b 1) in
       let h : p < length values = omega (arith, leb-false w.n p (b 2), i.n_is) in
       let j = pooled R values B w t i p h m (b 5) in
-      begun R values few B (v R values B w t i p h) (t₁ R values B w t i p h) j m.letters p h (b 3) (fresh_is (station w p).stand (b 3) (b 4)) (due (station w p).hold (station w p).round) refl)
+      begun R values few B (v R values B w t i p h) (t₁ R values B w t i p h) j m.letters p h (b 3) (fresh_is (station w p).stand (b 3) (b 4))
+      (due (station w p)) refl)

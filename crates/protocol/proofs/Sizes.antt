@@ -20,7 +20,10 @@ use Rattle.protocol.specs.Refusals.{attempt}
 use Rattle.protocol.proofs.Outcomes.{attempt_by, deliver_by}
 use Rattle.protocol.specs.Rows.{letter_cells, letter_cell, held_cell}
 use Rattle.protocol.specs.Records.{due}
-use Rattle.protocol.specs.Calls.{taken_in, received_letters, opened, open_refusal, look_refusal, look_call, sight_of, frames_of, sent, send_refusal, without_frame, received, place_refusal, repeat_refusal, with_pool, with_stations, turned, turn_refusal, crash_refusal, step, after}
+use Rattle.protocol.specs.Steps.{step, after}
+use Rattle.protocol.specs.Calls.{taken_in, received_letters, opened, open_refusal, look_refusal, look_call, sight_of, frames_of, sent, send_refusal}
+use Rattle.protocol.specs.Calls.{without_frame, received, place_refusal, repeat_refusal, with_pool, with_stations, turned, turn_refusal}
+use Rattle.protocol.specs.Calls.{crash_refusal}
 
 -- ---- lengths of cells
 length_taken_out : (xs : List ℕ) (c k : ℕ) → length (take_out 0 xs c k) ≡ length xs
@@ -78,25 +81,50 @@ module _ {S L : Type 0} (R : Behaviour S L) where
         pool_len = refl;
         book_len = refl;
         states = refl;
-        letters = length_taken_in w.n p (due (station w p).hold (station w p).round) w.letters;
+        letters = length_taken_in w.n p (due (station w p)) w.letters;
         pool = length_put (frames_of R w p) w.pool w.frames;
         book = refl;
       }
 
   without_sizes : (w : World S L) (k : ℕ) → SameSizes w (without_frame R w k)
-  without_sizes w k = record { n = refl; pool_len = refl; book_len = refl; states = refl; letters = refl; pool = length_taken_out w.pool w.frames k; book = refl }
+  without_sizes w k = record {
+    n = refl;
+    pool_len = refl;
+    book_len = refl;
+    states = refl;
+    letters = refl;
+    pool = length_taken_out w.pool w.frames k;
+    book = refl;
+  }
 
   received_sizes : (w : World S L) (f : Frame L) (x : Fate) → SameSizes w (received R w f x)
-  received_sizes w f x = record { n = refl; pool_len = refl; book_len = refl; states = refl; letters = length_received w.n w.letters f x; pool = refl; book = refl }
+  received_sizes w f x = record {
+    n = refl;
+    pool_len = refl;
+    book_len = refl;
+    states = refl;
+    letters = length_received w.n w.letters f x;
+    pool = refl;
+    book = refl;
+  }
 
   turned_sizes : (w : World S L) (p : ℕ) → SameSizes w (turned R w p)
-  turned_sizes w p = record { n = refl; pool_len = refl; book_len = refl; states = length-set w.states p _; letters = refl; pool = refl; book = length-set w.book w.entries _ }
+  turned_sizes w p = record {
+    n = refl;
+    pool_len = refl;
+    book_len = refl;
+    states = length-set w.states p _;
+    letters = refl;
+    pool = refl;
+    book = length-set w.book w.entries _;
+  }
 
   repeated_sizes : (w : World S L) (k : ℕ) → SameSizes w (with_pool R w (w.frames + 1) (set w.pool w.frames (get_or w.pool k 0)))
   repeated_sizes w k = record { n = refl; pool_len = refl; book_len = refl; states = refl; letters = refl; pool = length-set w.pool w.frames _; book = refl }
 
   abbrev crashed : World S L → ℕ → World S L
-  crashed w p = with_stations R w (set w.stations p (record { round = (station w p).round; stand = Down; heard = (station w p).heard; hold = (station w p).hold }))
+  crashed w p = with_stations R w (set w.stations p
+      (record { round = (station w p).round; stand = Down; heard = (station w p).heard; hold = (station w p).hold }))
 
   crashed_sizes : (w : World S L) (p : ℕ) → SameSizes w (crashed w p)
   crashed_sizes w p = record { n = refl; pool_len = refl; book_len = refl; states = refl; letters = refl; pool = refl; book = refl }
@@ -104,7 +132,8 @@ module _ {S L : Type 0} (R : Behaviour S L) where
   step_sizes : (w : World S L) (c : Step) → SameSizes w (step R w c).1
   unfolding step
   step_sizes w (Send p) = kept w (sent R w p) (send_refusal R w p) (length (frames_of R w p)) (sent_sizes w p)
-  step_sizes w (Deliver k) = deliver_by R w k (λ o. SameSizes w o.1) (λ r. same w) (λ e f h y j. then w (without_frame R w k) _ (without_sizes w k) (received_sizes (without_frame R w k) f y))
+  step_sizes w (Deliver k) = deliver_by R w k (λ o. SameSizes w o.1) (λ r. same w)
+      (λ e f h y j. then w (without_frame R w k) _ (without_sizes w k) (received_sizes (without_frame R w k) f y))
   step_sizes w (Drop k) = kept w (without_frame R w k) (place_refusal R w k) 0 (without_sizes w k)
   step_sizes w (Repeat k) = kept w (with_pool R w (w.frames + 1) (set w.pool w.frames (get_or w.pool k 0))) (repeat_refusal R w k) w.frames (repeated_sizes w k)
   step_sizes w (Turn p) = kept w (turned R w p) (turn_refusal R w p) ((station w p).round + 1) (turned_sizes w p)

@@ -5,7 +5,8 @@ use Rattle.std.proofs.lemmas.List.{get_or-replicate}
 use Rattle.std.proofs.lemmas.Bool.{or_parts, ltb-false, eqb-false, false≢true, and_right, or_from}
 use Rattle.stations.proofs.Members.{contains_none}
 use Rattle.rules.specs.Rule.{Behaviour, Interface, lockstep}
-use Rattle.protocol.specs.World.{World, blank, station}
+use Rattle.protocol.specs.Records.{blank}
+use Rattle.protocol.specs.World.{World, station}
 use Rattle.protocol.specs.Rows.{letter_cells}
 use Rattle.protocol.specs.Calls.{open_refusal, open_tests, opened, state_of}
 use Rattle.protocol.specs.Tally.{start}

@@ -1,9 +1,12 @@
 -- An accepted turn keeps the invariant: the new entry is the tally's triple, and the new state is the lockstep run's.
-use Rattle.std.proofs.Common.{◌≡◌, ℕ, suc, ◌+◌, ◌-◌, ◌<◌, ◌≤◌, true, false, cond, ◌&&◌, eqb, List, [], ◌∷◌, ◌++◌, map, length, set, replicate, Some, None, Option, sym, refl, ap, ◌∙◌, inl, inr, add-one, arith}
+use Rattle.std.proofs.Common.{◌≡◌, ℕ, suc, ◌+◌, ◌-◌, ◌<◌, ◌≤◌, true, false, cond, ◌&&◌, eqb, List, [], ◌∷◌, ◌++◌, map, length, set, replicate, Some}
+use Rattle.std.proofs.Common.{None, Option, sym, refl, ap, ◌∙◌, inl, inr, add-one, arith}
 use Rattle.std.specs.List.{slice_get}
 use Rattle.std.proofs.Math.Bool.{or-false}
-use Rattle.std.proofs.lemmas.List.{length-set, length_push, length-map, length-append, length-replicate, get_or-set_same, get_or-set_other, set_at, map_push, append_assoc}
-use Rattle.std.proofs.lemmas.Bool.{cases_eq, cases_Bool, leb-false, eqb-true, eqb-false, eq-eqb, ne_eqb, true≢false, false≢true, cond_both, cond-true, cond-false, and_parts, and_left, and_right}
+use Rattle.std.proofs.lemmas.List.{length-set, length_push, length-map, length-append, length-replicate, get_or-set_same, get_or-set_other, set_at}
+use Rattle.std.proofs.lemmas.List.{map_push, append_assoc}
+use Rattle.std.proofs.lemmas.Bool.{cases_eq, cases_Bool, leb-false, eqb-true, eqb-false, eq-eqb, ne_eqb, true≢false, false≢true, cond_both, cond-true}
+use Rattle.std.proofs.lemmas.Bool.{cond-false, and_parts, and_left, and_right}
 use Rattle.lists.specs.Lists.{tabulate}
 use Rattle.stations.specs.Stations.{contains, none, set_of, Within}
 use Rattle.stations.proofs.Members.{within_set, contains_none, contains_set, same_members}
@@ -13,10 +16,12 @@ use Rattle.protocol.specs.declared.types.Held.{Held}
 use Rattle.protocol.specs.declared.types.StationRecord.{StationRecord}
 use Rattle.protocol.specs.declared.types.Stand.TheVariants.{Fresh}
 use Rattle.protocol.specs.declared.types.Step.TheVariants.{Turn}
-use Rattle.protocol.specs.World.{World, station, blank}
+use Rattle.protocol.specs.Records.{blank}
+use Rattle.protocol.specs.World.{World, station}
 use Rattle.protocol.specs.Records.{is_fresh, is_down}
 use Rattle.protocol.specs.Rows.{letter_cell, held_cell}
-use Rattle.protocol.specs.Calls.{step, turn_tests, state_of, mailbox_of, turn_refusal, turned}
+use Rattle.protocol.specs.Steps.{step}
+use Rattle.protocol.specs.Calls.{turn_tests, state_of, mailbox_of, turn_refusal, turned}
 use Rattle.protocol.specs.Tally.{Tally, Triple, heard_in, tally_accepted}
 use Rattle.protocol.specs.Guarantee.{entry}
 use Rattle.lists.proofs.Tables.{tabulate_same}
@@ -31,17 +36,20 @@ heard_before [] u p k q apart = cond_both (eqb u.station p && eqb u.round k) (co
     (λ e. let a = and_parts _ _ e in absurd (apart (eqb-true u.station p a.0) (eqb-true u.round k a.1))) (λ e. refl)
 heard_before (t ∷ ts) u p k q apart = rw (heard_before ts u p k q apart)
 
-heard_new : (rounds : ℕ → ℕ) (ts : List Triple) (u : Triple) (q : ℕ) → Over rounds ts → rounds u.station ≤ u.round → heard_in (ts ++ (u ∷ [])) u.station u.round q ≡ contains u.heard q
+heard_new : (rounds : ℕ → ℕ) (ts : List Triple) (u : Triple) (q : ℕ) → Over rounds ts → rounds u.station ≤ u.round →
+    heard_in (ts ++ (u ∷ [])) u.station u.round q ≡ contains u.heard q
 heard_new rounds [] u q over h = rw (eq-eqb u.station u.station refl, eq-eqb u.round u.round refl)
 heard_new rounds (t ∷ ts) u q over h =
-    cond_both (eqb t.station u.station && eqb t.round u.round) (contains t.heard q) (heard_in (ts ++ (u ∷ [])) u.station u.round q) (λ x. x ≡ contains u.heard q)
+    cond_both (eqb t.station u.station && eqb t.round u.round) (contains t.heard q) (heard_in (ts ++ (u ∷ [])) u.station u.round q)
+    (λ x. x ≡ contains u.heard q)
     (λ e.
     let a = and_parts _ _ e in
     let z : rounds t.station ≡ rounds u.station = ap rounds (eqb-true t.station u.station a.0) in
     absurd (omega (arith, over.0, eqb-true t.round u.round a.1)))
     (λ e. heard_new rounds ts u q over.1 h)
 
-over_more : (rounds rounds' : ℕ → ℕ) (ts : List Triple) (u : Triple) → ((q : ℕ) → rounds q ≤ rounds' q) → u.round < rounds' u.station → Over rounds ts → Over rounds' (ts ++ (u ∷ []))
+over_more : (rounds rounds' : ℕ → ℕ) (ts : List Triple) (u : Triple) → ((q : ℕ) → rounds q ≤ rounds' q) → u.round < rounds' u.station → Over rounds ts →
+    Over rounds' (ts ++ (u ∷ []))
 over_more rounds rounds' [] u g h o = (h, tt)
 over_more rounds rounds' (t ∷ ts) u g h o = (omega (arith, o.0, g t.station), over_more rounds rounds' ts u g h o.1)
 
@@ -152,7 +160,8 @@ module _ {S L : Type 0} (R : Behaviour S L) (values : List ℕ) (B : ℕ) (w : W
   mail_is : mailbox_of R w p ≡ tabulate (length values) (letter_heard R (length values) p rd (Hn p rd) (lockstep R values Hn rd))
   mail_is =
       let theirs : ℕ → Option L = λ q. cond (contains s.heard q) (slice_get w.letters (letter_cell w.n p q)) None in
-      ap (λ m. tabulate m theirs) i.n_is ∙ tabulate_same (length values) theirs (letter_heard R (length values) p rd (Hn p rd) (lockstep R values Hn rd)) (λ q l. elim (cases_Bool (contains s.heard q)) [
+      ap (λ m. tabulate m theirs) i.n_is ∙ tabulate_same (length values) theirs (letter_heard R (length values) p rd (Hn p rd) (lockstep R values Hn rd))
+      (λ q l. elim (cases_Bool (contains s.heard q)) [
         | inl m ↦
             let b = a.marked q m in
             rw (heard_then q, m) (b.same ∙ ap (λ y. R.letter (length values) q rd y p) (sym (grows rd q b.begun).1))
@@ -167,7 +176,8 @@ module _ {S L : Type 0} (R : Behaviour S L) (values : List ℕ) (B : ℕ) (w : W
       let x_is : state_of R w p ≡ lockstep R values Hn rd p = at.state ∙ sym (grows rd p (omega arith)).1 in
       let m = mail_is in
       let e : moved t.rounds p p ≡ suc rd = moved_here t.rounds p ∙ add-one rd in
-      let step : R.next w.n p s.round (state_of R w p) (mailbox_of R w p) ≡ R.next (length values) p rd (lockstep R values Hn rd p) (tabulate (length values) (letter_heard R (length values) p rd (Hn p rd) (lockstep R values Hn rd))) = cc in
+      let step : R.next w.n p s.round (state_of R w p) (mailbox_of R w p) ≡ R.next (length values) p rd (lockstep R values Hn rd p)
+      (tabulate (length values) (letter_heard R (length values) p rd (Hn p rd) (lockstep R values Hn rd))) = cc in
       step ∙ ap (λ k. lockstep R values Hn k p) (sym e)
 
   abbrev then : StationRecord
@@ -188,7 +198,8 @@ module _ {S L : Type 0} (R : Behaviour S L) (values : List ℕ) (B : ℕ) (w : W
               let past : rd < r = omega (arith, rw more at g) in
               a.noted r q (omega arith) ∙ rw (ne_eqb r rd (λ z. absurd (omega arith)), contains_none q, and_right (eqb r (moved t.rounds p p)) false refl);
           marked = λ q m. absurd (false≢true (sym (contains_none q) ∙ m));
-          holding = λ y z. brought_kept R values (heard_in t.triples) Hn t.rounds (moved t.rounds p) grows (slice_get w.letters (held_cell w.n p)) y.sender y.round p (a.holding y z);
+          holding = λ y z. brought_kept R values (heard_in t.triples) Hn t.rounds (moved t.rounds p) grows
+              (slice_get w.letters (held_cell w.n p)) y.sender y.round p (a.holding y z);
           ahead = λ y z. rw more (omega (arith, a.later ready y z));
           later = λ f. absurd (true≢false f);
           silent = λ _ q. contains_none q;
@@ -210,14 +221,17 @@ module _ {S L : Type 0} (R : Behaviour S L) (values : List ℕ) (B : ℕ) (w : W
         frames_are = i.frames_are;
         carried = λ j l. carry_kept R values (heard_in t.triples) Hn t.rounds (moved t.rounds p) grows _ _ (i.carried j l);
         seats = λ x hx. elim (cases_eq x p) [
-          | inl e ↦ rw (e, get_or-set_same w.stations p then blank (omega (arith, i.wide))) (seat_then more_left _ (get_or-set_same w.states p _ _ (omega (arith, m.states))))
+          | inl e ↦ rw (e, get_or-set_same w.stations p then blank (omega (arith, i.wide)))
+              (seat_then more_left _ (get_or-set_same w.states p _ _ (omega (arith, m.states))))
           | inr e ↦ seat_kept R values (heard_in t.triples) Hn t.rounds (moved t.rounds p) grows (t.notes x) (t.notes x) (station w x) _ (state_of R w x) _
               w.n w.letters w.letters x
-              (moved_apart t.rounds p x e) (λ r q. refl) (get_or-set_other w.stations p x then blank e) (get_or-set_other w.states p x _ _ e) n_is (λ j l. refl) (i.seats x hx)
+              (moved_apart t.rounds p x e) (λ r q. refl) (get_or-set_other w.stations p x then blank e) (get_or-set_other w.states p x _ _ e) n_is
+              (λ j l. refl) (i.seats x hx)
         ];
         entries_are = rw length_push (omega (arith, i.entries_are));
         book_is = book_push t.triples w.book B w.entries i.book_is i.entries_are (new R values t i.known p) (entry_word p s.round s.heard) free word;
-        over = over_more t.rounds (moved t.rounds p) t.triples (new R values t i.known p) (moved_more t.rounds p) (rw (moved_here t.rounds p) (omega arith)) i.over;
+        over = over_more t.rounds (moved t.rounds p) t.triples (new R values t i.known p) (moved_more t.rounds p)
+            (rw (moved_here t.rounds p) (omega arith)) i.over;
         whole = whole_more t.triples (new R values t i.known p) at.limit (within_set (t.notes p rd)) i.whole;
         known = known_then;
       }

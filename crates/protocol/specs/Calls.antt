@@ -1,35 +1,28 @@
 -- What each call answers and leaves, by cases.
-use Rattle.std.specs.Prelude.{ℕ, zero, suc, ◌+◌, ◌-◌, Bool, cond, not, ◌||◌, List, [], ◌∷◌, ◌++◌, length, get_or, set, replicate, Some, None, Ok, Err, Option, Result, ◌==◌, nat_lt, slice_index, slice_index_or, slice_set}
+use Rattle.std.specs.Prelude.{ℕ, zero, suc, ◌+◌, ◌-◌, Bool, cond, not, ◌||◌, List, [], ◌∷◌, ◌++◌, length, get_or, set, replicate, Some, None, Ok, Err}
+use Rattle.std.specs.Prelude.{Option, Result, ◌==◌, nat_lt, slice_index, slice_index_or, slice_set}
 use Rattle.lists.specs.Lists.{tabulate, written, put}
 use Rattle.stations.specs.declared.StationSet.{StationSet}
 use Rattle.stations.specs.declared.TheConstants.{STATIONS}
-use Rattle.stations.specs.Stations.{contains, none, with_station}
+use Rattle.stations.specs.Stations.{contains, none}
 use Rattle.rules.specs.Rule.{Behaviour}
 use Rattle.protocol.specs.declared.TheConstants.{MAX_POOL, MAX_BOOK}
 use Rattle.protocol.specs.declared.types.StationRecord.{StationRecord}
-use Rattle.protocol.specs.declared.types.Stand.TheVariants.{Fresh, Listening, Down}
+use Rattle.protocol.specs.declared.types.Stand.TheVariants.{Fresh, Down}
 use Rattle.protocol.specs.declared.refusal.Refusal.{Refusal}
-use Rattle.protocol.specs.declared.refusal.Refusal.TheVariants.{AlreadyOpen, ValueCount, BufferSize, BufferMismatch, Unreadable, StationDown, NotListening, HoldsLetter, PoolFull}
+use Rattle.protocol.specs.declared.refusal.Refusal.TheVariants.{AlreadyOpen, ValueCount, BufferSize, BufferMismatch, Unreadable, PoolFull}
 use Rattle.protocol.specs.declared.types.Sight.{Sight}
 use Rattle.protocol.specs.declared.types.Fate.{Fate}
 use Rattle.protocol.specs.declared.types.Fate.TheVariants.{Late, Again, Taken, Early}
-use Rattle.protocol.specs.declared.types.Step.{Step}
-use Rattle.protocol.specs.declared.types.Step.TheVariants.{Send, Deliver, Drop, Repeat, Turn, Crash}
 use Rattle.std.specs.List.{slice_get}
-use Rattle.std.specs.Result.{result_err}
 use Rattle.frames.specs.Frame.{Frame, frame_word, read_frame}
 use Rattle.frames.specs.Book.{entry_word}
 use Rattle.frames.specs.Pool.{take_out}
-use Rattle.protocol.specs.Refusals.{first_refusal, first_outcome, attempt}
+use Rattle.protocol.specs.Refusals.{first_refusal, attempt}
 use Rattle.protocol.specs.Rows.{letter_cells, letter_cell, held_cell}
 use Rattle.protocol.specs.Tests.{ready_tests, place_tests, station_tests, standing_tests, speaker_tests, turner_tests}
-use Rattle.protocol.specs.Records.{is_fresh, is_down, holds, due}
-use Rattle.protocol.specs.World.{World, blank, hearing, holding, station}
-
--- the record of a station that begins to listen, and the sender of the held letter that it takes in
-abbrev pub listened : StationRecord → Option ℕ → StationRecord
-listened s None = record s { stand = Listening }
-listened s (Some q) = record s { stand = Listening; heard = with_station s.heard q; hold = None }
+use Rattle.protocol.specs.Records.{blank, due, hearing, holding, listened, judged}
+use Rattle.protocol.specs.World.{World, station}
 
 -- the letter of one cell copied into another
 abbrev pub copied : {L : Type 0} → List L → ℕ → ℕ → List L
@@ -43,17 +36,6 @@ taken_in n p (Some q) letters = copied letters (held_cell n p) (letter_cell n p 
 -- the letter that p has from q, if it heard q
 abbrev pub mail : {L : Type 0} → (n p : ℕ) → StationSet → List L → ℕ → Option L
 mail n p heard letters q = cond (contains heard q) (slice_get letters (letter_cell n p q)) None
-
--- the fate of a frame of round k from q at a station, or why the station does not take it, in checking order
-abbrev pub judged : StationRecord → (q k : ℕ) → Result Fate Refusal
-judged s q k =
-    first_outcome (
-    (is_down s.stand, Err StationDown) ∷
-    (is_fresh s.stand, Err NotListening) ∷
-    (holds s.hold, Err HoldsLetter) ∷
-    (nat_lt k s.round, Ok Late) ∷
-    (nat_lt s.round k, Ok Early) ∷
-    (contains s.heard q, Ok Again) ∷ []) (Ok Taken)
 
 -- the records when a frame has met its fate: a sender is heard, or a letter is held
 abbrev pub received_stations : {L : Type 0} → List StationRecord → Frame L → Fate → List StationRecord
@@ -141,7 +123,7 @@ module _ {S L : Type 0} (R : Behaviour S L) where
   abbrev pub listening : World S L → ℕ → World S L
   listening w p =
       let s : StationRecord = station w p in
-      with_letters (with_stations w (slice_set w.stations p (listened s (due s.hold s.round)))) (taken_in w.n p (due s.hold s.round) w.letters)
+      with_letters (with_stations w (slice_set w.stations p (listened s (due s)))) (taken_in w.n p (due s) w.letters)
 
   abbrev pub sent : World S L → ℕ → World S L
   sent w p = listening (with_pool w (w.frames + length (frames_of w p)) (put w.pool w.frames (frames_of w p))) p
@@ -246,23 +228,3 @@ module _ {S L : Type 0} (R : Behaviour S L) where
 
   abbrev pub look_call : World S L → ℕ → Result Sight Refusal × World S L
   look_call w p = attempt w (look_refusal w p) (sight_of w p) w
-
-  -- ---- lists of calls
-  -- a call's refusal or none, and what it leaves
-  unfoldable pub step : World S L → Step → Option Refusal × World S L
-  step w (Send p) = let o = send_call w p in (result_err o.0, o.1)
-  step w (Deliver k) = let o = deliver_call w k in (result_err o.0, o.1)
-  step w (Drop k) = let o = drop_call w k in (result_err o.0, o.1)
-  step w (Repeat k) = let o = repeat_call w k in (result_err o.0, o.1)
-  step w (Turn p) = let o = turn_call w p in (result_err o.0, o.1)
-  step w (Crash p) = let o = crash_call w p in (result_err o.0, o.1)
-
-  -- what a list of calls leaves
-  unfoldable pub after : World S L → List Step → World S L
-  after w [] = w
-  after w (c ∷ cs) = after (step w c).1 cs
-
-  -- which of them are refused, and how
-  unfoldable pub refusals : World S L → List Step → List (Option Refusal)
-  refusals w [] = []
-  refusals w (c ∷ cs) = (step w c).0 ∷ refusals (step w c).1 cs

@@ -1,5 +1,6 @@
 -- What is found after every list of a planner's calls, for every rule that keeps its laws.
-use Rattle.std.specs.Prelude.{◌≡◌, ℕ, ◌-◌, ◌^◌, ◌<◌, ◌≤◌, Bool, List, [], ◌∷◌, ◌++◌, map, length, take, replicate, count_by, Some, None, Ok, Option, ◌==◌, slice_index}
+use Rattle.std.specs.Prelude.{◌≡◌, ℕ, ◌-◌, ◌^◌, ◌<◌, ◌≤◌, Bool, List, [], ◌∷◌, ◌++◌, map, length, take, replicate, count_by, Some, None, Ok, Option}
+use Rattle.std.specs.Prelude.{◌==◌, slice_index}
 use Rattle.rules.specs.declared.TheConstants.{LAST_ROUND}
 use Rattle.rules.specs.Rule.{Behaviour, Interface, Laws, Ranges, lockstep}
 use Rattle.protocol.specs.declared.refusal.Refusal.{Refusal}
@@ -9,7 +10,8 @@ use Rattle.frames.specs.Book.{entry_word, read_entry, book_heard}
 use Rattle.protocol.specs.declared.TheConstants.{MAX_POOL, MAX_BOOK}
 use Rattle.protocol.specs.Rows.{letter_cells}
 use Rattle.protocol.specs.World.{World, station}
-use Rattle.protocol.specs.Calls.{open_refusal, opened, after, refusals, state_of, sight_of, look_call}
+use Rattle.protocol.specs.Steps.{after, refusals}
+use Rattle.protocol.specs.Calls.{open_refusal, opened, state_of, sight_of, look_call}
 use Rattle.protocol.specs.Tally.{Tally, Triple, start, tally}
 
 -- ---- the accepted turns of a list of calls

@@ -5,5 +5,6 @@ pub mod Records
 pub mod Tests
 pub mod Sound
 pub mod Calls
+pub mod Steps
 pub mod Tally
 pub mod Guarantee

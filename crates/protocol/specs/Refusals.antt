@@ -6,7 +6,9 @@ use Rattle.refusal_numbers.specs.Numbers.{number_of}
 use Rattle.frames.specs.declared.pool.PoolRefusal.{PoolRefusal}
 use Rattle.frames.specs.declared.pool.PoolRefusal.TheVariants as pool
 use Rattle.protocol.specs.declared.refusal.Refusal.{Refusal}
-use Rattle.protocol.specs.declared.refusal.Refusal.TheVariants.{Shut, AlreadyOpen, ValueCount, BufferSize, BufferMismatch, NoSuchStation, NoSuchPlace, Unreadable, StationDown, AlreadySent, NotListening, HoldsLetter, PoolFull, BookFull, LastRound}
+use Rattle.protocol.specs.declared.refusal.Refusal.TheVariants.{Shut, AlreadyOpen, ValueCount, BufferSize, BufferMismatch, NoSuchStation, NoSuchPlace}
+use Rattle.protocol.specs.declared.refusal.Refusal.TheVariants.{Unreadable, StationDown, AlreadySent, NotListening, HoldsLetter, PoolFull, BookFull}
+use Rattle.protocol.specs.declared.refusal.Refusal.TheVariants.{LastRound}
 
 -- the reason that each refusal is, in checking order, and its number
 abbrev pub reason : Refusal → Reason

@@ -2,9 +2,10 @@
 use Rattle.std.specs.Prelude.{◌≡◌, ℕ, ◌<◌, ◌≤◌, true, List, Some, slice_index_or}
 use Rattle.stations.specs.Stations.{contains}
 use Rattle.rules.specs.declared.TheConstants.{LAST_ROUND}
+use Rattle.frames.specs.Book.{senders_in}
 use Rattle.protocol.specs.declared.types.Held.{Held}
 use Rattle.protocol.specs.declared.types.StationRecord.{StationRecord}
-use Rattle.protocol.specs.World.{blank}
+use Rattle.protocol.specs.Records.{blank}
 
 -- a record for the place p among those of n stations: no round is past the last, whoever is named is one of the n
 -- stations, and past them nothing is recorded
@@ -18,3 +19,7 @@ pub record Sound (n p : ℕ) (s : StationRecord) : Type 0 where
 -- such are all records
 abbrev pub AllSound : ℕ → List StationRecord → Type 0
 AllSound n records = (p : ℕ) → Sound n p (slice_index_or records p blank)
+
+-- a word of the book names as senders only stations of n
+abbrev pub NamesStations : (n word : ℕ) → Type 0
+NamesStations n word = (q : ℕ) → contains (senders_in word) q ≡ true → q < n

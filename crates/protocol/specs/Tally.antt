@@ -1,5 +1,6 @@
 -- The tally: what a list of calls should come to, told from the calls and from which were refused, without frames, cells or heard marks.
-use Rattle.std.specs.Prelude.{ℕ, zero, suc, ◌+◌, ◌-◌, false, cond, not, ◌&&◌, ◌||◌, List, [], ◌∷◌, ◌++◌, length, get_or, take, Some, None, Option, ◌==◌, nat_lt, slice_index_or, slice_set}
+use Rattle.std.specs.Prelude.{ℕ, zero, suc, ◌+◌, ◌-◌, false, cond, not, ◌&&◌, ◌||◌, List, [], ◌∷◌, ◌++◌, length, get_or, take, Some, None, Option}
+use Rattle.std.specs.Prelude.{◌==◌, nat_lt, slice_index_or, slice_set}
 use Rattle.stations.specs.declared.StationSet.{StationSet}
 use Rattle.stations.specs.Stations.{contains, set_of}
 use Rattle.rules.specs.Rule.{Behaviour, Heard, lockstep}
@@ -53,7 +54,14 @@ module _ {S L : Type 0} (R : Behaviour S L) (values : List ℕ) where
   slips_from t p q (suc m) =
       let k : ℕ = t.rounds p in
       let rest : List Slip = slips_from t p (suc q) m in
-      elim (R.letter (length values) p k (lockstep R values (heard_in t.triples) k p) q) [ None ↦ rest | Some l ↦ record { sender = p; receiver = q; round = k } ∷ rest ]
+      elim (R.letter (length values) p k (lockstep R values (heard_in t.triples) k p) q) [
+        | None ↦ rest
+        | Some l ↦ record {
+          sender = p;
+          receiver = q;
+          round = k;
+        } ∷ rest
+      ]
 
   -- what an accepted call adds
   unfoldable pub tally_accepted : Tally → Step → Tally

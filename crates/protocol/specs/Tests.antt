@@ -2,14 +2,16 @@
 use Rattle.std.specs.Prelude.{ℕ, Bool, not, ◌||◌, List, [], ◌∷◌, ◌++◌, length, ◌==◌, nat_le, nat_lt}
 use Rattle.protocol.specs.declared.types.StationRecord.{StationRecord}
 use Rattle.protocol.specs.declared.refusal.Refusal.{Refusal}
-use Rattle.protocol.specs.declared.refusal.Refusal.TheVariants.{Shut, BufferMismatch, NoSuchStation, NoSuchPlace, StationDown, AlreadySent, NotListening, BookFull, LastRound}
+use Rattle.protocol.specs.declared.refusal.Refusal.TheVariants.{Shut, BufferMismatch, NoSuchStation, NoSuchPlace, StationDown, AlreadySent}
+use Rattle.protocol.specs.declared.refusal.Refusal.TheVariants.{NotListening, BookFull, LastRound}
 use Rattle.protocol.specs.Records.{is_fresh, is_listening, is_down}
 use Rattle.protocol.specs.Rows.{letter_cells}
 use Rattle.protocol.specs.World.{World}
 
 -- the buffers have not the lengths that an open shed asks for
 abbrev pub mismatched : {S L : Type 0} → World S L → Bool
-mismatched w = nat_lt (length w.states) w.n || nat_lt (length w.letters) (letter_cells w.n) || not (length w.pool == w.pool_len) || not (length w.book == w.book_len)
+mismatched w = nat_lt (length w.states) w.n || nat_lt (length w.letters) (letter_cells w.n) || not (length w.pool == w.pool_len) || not
+    (length w.book == w.book_len)
 
 -- of every call but open: the shed is open, and its buffers fit it
 abbrev pub ready_tests : {S L : Type 0} → World S L → List (Bool × Refusal)

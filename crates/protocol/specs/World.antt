@@ -1,10 +1,8 @@
 -- The shed and its four buffers as one value.
-use Rattle.std.specs.Prelude.{ℕ, List, replicate, Some, None, slice_index_or}
+use Rattle.std.specs.Prelude.{ℕ, List, replicate, slice_index_or}
 use Rattle.stations.specs.declared.TheConstants.{STATIONS}
-use Rattle.stations.specs.Stations.{none, with_station}
-use Rattle.protocol.specs.declared.types.Held.{Held}
 use Rattle.protocol.specs.declared.types.StationRecord.{StationRecord}
-use Rattle.protocol.specs.declared.types.Stand.TheVariants.{Fresh}
+use Rattle.protocol.specs.Records.{blank}
 
 pub record World (S L : Type 0) : Type 0 where
   -- the number of stations, 0 while the shed is shut
@@ -22,17 +20,6 @@ pub record World (S L : Type 0) : Type 0 where
   pub letters : List L
   pub pool : List ℕ
   pub book : List ℕ
-
--- a station in round 0 that has sent, heard and held nothing
-abbrev pub blank : StationRecord
-blank = record { round = 0; stand = Fresh; heard = none; hold = None }
-
--- the record of a station that heard q, and of one that holds a letter
-abbrev pub hearing : StationRecord → ℕ → StationRecord
-hearing s q = record s { heard = with_station s.heard q }
-
-abbrev pub holding : StationRecord → Held → StationRecord
-holding s h = record s { hold = Some h }
 
 -- the record of station p
 abbrev pub station : {S L : Type 0} → World S L → ℕ → StationRecord

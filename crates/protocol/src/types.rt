@@ -1,6 +1,6 @@
 // What the shed keeps of a station, what it is asked to do, and what it answers.
 ghost use Rattle.std.specs.Prelude.{◌≡◌};
-ghost use Rattle.protocol.specs.Calls.{judged};
+ghost use Rattle.protocol.specs.Records.{judged};
 
 use crate::refusal::Refusal;
 use stations::StationSet;

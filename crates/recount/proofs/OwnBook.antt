@@ -14,7 +14,8 @@ use Rattle.frames.proofs.Sets.{zeros_after}
 use Rattle.protocol.specs.declared.refusal.Refusal.{Refusal}
 use Rattle.protocol.specs.World.{World}
 use Rattle.protocol.specs.Refusals.{attempt}
-use Rattle.protocol.specs.Calls.{opened, after, refusals}
+use Rattle.protocol.specs.Steps.{after, refusals}
+use Rattle.protocol.specs.Calls.{opened}
 use Rattle.protocol.specs.Tally.{Triple, start, tally}
 use Rattle.protocol.specs.Guarantee.{Guarantee, entry}
 use Rattle.protocol.proofs.Guaranteed.{guaranteed}

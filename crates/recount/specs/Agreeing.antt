@@ -4,7 +4,8 @@ use Rattle.rules.specs.Rule.{Behaviour}
 use Rattle.protocol.specs.declared.refusal.Refusal.{Refusal}
 use Rattle.protocol.specs.declared.types.Step.{Step}
 use Rattle.protocol.specs.World.{World, station}
-use Rattle.protocol.specs.Calls.{open_refusal, opened, after, state_of}
+use Rattle.protocol.specs.Steps.{after}
+use Rattle.protocol.specs.Calls.{open_refusal, opened, state_of}
 use Rattle.recount.specs.Recount.{Buffers, shortest}
 
 -- the words are a shed's own book: its entries and any number of the words after them

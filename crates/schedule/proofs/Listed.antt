@@ -12,7 +12,8 @@ use Rattle.protocol.specs.declared.refusal.Refusal.{Refusal}
 use Rattle.protocol.specs.declared.types.Sight.{Sight}
 use Rattle.protocol.specs.declared.types.Step.{Step}
 use Rattle.protocol.specs.World.{World}
-use Rattle.protocol.specs.Calls.{look_refusal, look_call, sight_of, step, refusals}
+use Rattle.protocol.specs.Steps.{step, refusals}
+use Rattle.protocol.specs.Calls.{look_refusal, look_call, sight_of}
 use Rattle.protocol.proofs.Outcomes.{was_accepted}
 use Rattle.protocol.specs.Tally.{Triple, start, tally}
 use Rattle.protocol.specs.Guarantee.{Guarantee, entry}

@@ -8,7 +8,8 @@ use Rattle.protocol.specs.declared.refusal.Refusal.{Refusal}
 use Rattle.protocol.specs.declared.types.Sight.{Sight}
 use Rattle.protocol.specs.declared.types.Step.{Step}
 use Rattle.protocol.specs.World.{World, shut}
-use Rattle.protocol.specs.Calls.{opened, after, refusals, sight_of}
+use Rattle.protocol.specs.Steps.{after, refusals}
+use Rattle.protocol.specs.Calls.{opened, sight_of}
 use Rattle.listing.specs.declared.printer.RefusedStep.{RefusedStep}
 use Rattle.schedule_text.specs.declared.types.Fault.{Fault}
 use Rattle.schedule.specs.declared.answer.TheConstants.{POOL_WORDS, BOOK_WORDS}

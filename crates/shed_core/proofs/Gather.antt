@@ -16,7 +16,11 @@ module _ {S L : Type 0} (R : Behaviour S L) (n p k : ℕ) (s : S) (q : ℕ) (h :
   more =
       let e : n - q ≡ suc (n - (q + 1)) = omega arith in
       ap (frames_from R n p k s q) e
-      ∙ ap (λ x. elim (R.letter n p k s q) [ None ↦ frames_from R n p k s x (n - (q + 1)) | Some l ↦ frame_word R (p, q, k, l) ∷ frames_from R n p k s x (n - (q + 1)) ]) (sym (add-one q))
+      ∙ ap (λ x. elim (R.letter n p k s q) [
+        | None ↦ frames_from R n p k s x (n - (q + 1))
+        | Some l ↦ frame_word R (p, q, k, l) ∷ frames_from R n p k s x
+            (n - (q + 1))
+      ]) (sym (add-one q))
 
   module _ (words all : List ℕ) (before : words ++ frames_from R n p k s q (n - q) ≡ all) where
     pub none_more : R.letter n p k s q ≡ None → words ++ rest ≡ all

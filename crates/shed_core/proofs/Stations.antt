@@ -1,14 +1,14 @@
 -- The records of a shed stay sound when one of them changes.
-use Rattle.std.proofs.Common.{◌≡◌, ◌∙◌, ℕ, zero, suc, ◌+◌, ◌<◌, ◌≤◌, true, refl, List, [], ◌∷◌, get_or, set, replicate, Some, Option, sym, subst, inl, inr, arith}
+use Rattle.std.proofs.Common.{◌≡◌, ◌∙◌, ℕ, zero, suc, ◌+◌, ◌<◌, ◌≤◌, refl, List, [], ◌∷◌, get_or, set, replicate, sym, subst, inl, inr, arith}
 use Rattle.std.proofs.lemmas.Bool.{cases_eq, false≢true}
 use Rattle.lists.proofs.Tables.{get_or_replicate_all}
 use Rattle.lists.proofs.Options.{none_some, same_some}
-use Rattle.stations.specs.Stations.{contains, none, with_station}
+use Rattle.stations.specs.Stations.{none}
 use Rattle.stations.proofs.Members.{contains_none, contains_old}
 use Rattle.protocol.specs.declared.types.Held.{Held}
 use Rattle.protocol.specs.declared.types.Stand.TheVariants.{Fresh, Down}
 use Rattle.protocol.specs.declared.types.StationRecord.{StationRecord}
-use Rattle.protocol.specs.World.{blank, hearing, holding}
+use Rattle.protocol.specs.Records.{blank, hearing, holding}
 use Rattle.protocol.specs.Sound.{Sound, AllSound}
 
 at_each : (P : ℕ → StationRecord → Type 0) (rs : List StationRecord) (p q : ℕ) (r : StationRecord) →

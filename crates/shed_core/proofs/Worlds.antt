@@ -19,7 +19,8 @@ accepted w b v a o e f =
     let done : attempt w o a b ≡ (Ok a, b) = ap (λ x. attempt w x a b) e in
     record { answers = sym (ap (λ y. y.0) done); leaves = f ∙ sym (ap (λ y. y.1) done) }
 
-pub refused : {A S L : Type 0} (w b : World S L) (a : A) (o : Option Refusal) (f : Refusal) (r : Result A Refusal) → o ≡ Some f → IsErrAnd r (λ y. y ≡ f) → ComesTo r w (attempt w o a b)
+pub refused : {A S L : Type 0} (w b : World S L) (a : A) (o : Option Refusal) (f : Refusal) (r : Result A Refusal) → o ≡ Some f → IsErrAnd r (λ y. y ≡ f) →
+    ComesTo r w (attempt w o a b)
 refused w b a o f (Ok x) e h = absurd h
 refused w b a o f (Err y) e h =
     let done : attempt w o a b ≡ (Err f, w) = ap (λ x. attempt w x a b) e in

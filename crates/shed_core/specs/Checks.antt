@@ -6,7 +6,7 @@ use Rattle.protocol.specs.declared.types.Stand.TheVariants.{Fresh, Listening, Do
 use Rattle.protocol.specs.declared.refusal.Refusal.{Refusal}
 use Rattle.protocol.specs.Refusals.{first_refusal}
 use Rattle.protocol.specs.Records.{is_fresh, is_listening, is_down}
-use Rattle.protocol.specs.World.{blank}
+use Rattle.protocol.specs.Records.{blank}
 use Rattle.shed_core.specs.declared.shed.Shed.{Shed}
 
 -- a check answers what was asked for, or the first refusal

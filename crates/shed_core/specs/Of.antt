@@ -1,7 +1,8 @@
 -- A shed with its buffers, as a value, and what a call's answer and buffers come to.
 use Rattle.std.specs.Prelude.{◌≡◌, ℕ, List, replicate}
 use Rattle.stations.specs.declared.TheConstants.{STATIONS}
-use Rattle.protocol.specs.World.{World, blank, shut}
+use Rattle.protocol.specs.Records.{blank}
+use Rattle.protocol.specs.World.{World, shut}
 use Rattle.shed_core.specs.declared.shed.Shed.{Shed}
 use Rattle.shed_core.specs.declared.buffers.Buffers.{Buffers}
 

@@ -15,8 +15,7 @@ mod turning;
 pub struct Shed {
     // The number of stations, 0 while the shed is shut.
     count: usize,
-    // The lengths that the pool and the book had at opening. The shed keeps these and no slices, as it is lent the buffers
-    // anew for each call.
+    // The lengths that the pool and the book had at opening.
     pool_len: usize,
     book_len: usize,
     // How many frames the pool has, and how many entries the book.

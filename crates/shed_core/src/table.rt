@@ -1,13 +1,13 @@
 // The stations' records.
 ghost use Rattle.std.specs.Prelude.{◌≡◌, ◌<◌, replicate, slice_index_or, slice_set};
 ghost use Rattle.stations.specs.declared.TheConstants.{STATIONS};
-ghost use Rattle.protocol.specs.World.{blank, hearing, holding};
+ghost use Rattle.protocol.specs.Records.{blank, hearing, holding};
 
 use crate::cells::store;
 use protocol::types::{Held, Stand, StationRecord};
 use stations::{STATIONS, StationSet};
 
-// One record for each of sixteen stations, so that a table asks for no memory; a shed with fewer uses the first.
+// One record for each of sixteen stations; a shed with fewer uses the first.
 #[derive(Clone, Copy, Debug, PartialEq, Eq)]
 pub struct Table {
     records: [StationRecord; STATIONS],
@@ -41,7 +41,7 @@ impl Table {
         self.records.get(p).copied().unwrap_or_else(blank_record)
     }
 
-    // The record of station p, lent, so that no frame's delivery copies one.
+    // The record of station p, lent.
     pub(crate) fn lend(&self, p: usize) -> &StationRecord
         requires { p < STATIONS }
         ensures { result.now ≡ slice_index_or self.now.records p blank }

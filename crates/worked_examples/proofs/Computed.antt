@@ -5,7 +5,7 @@ use Rattle.rules.specs.Rule.{lockstep}
 use Rattle.frames.specs.Frame.{frame_word, read_frame}
 use Rattle.frames.specs.Book.{entry_word}
 use Rattle.frames.specs.Pool.{take_out}
-use Rattle.protocol.specs.Calls.{step, after, refusals}
+use Rattle.protocol.specs.Steps.{step, after, refusals}
 use Rattle.protocol.specs.Tally.{tally, tally_accepted}
 use Rattle.worked_examples.specs.Rules.{ThirdExamples, LastExamples, LastRuns}
 use Rattle.worked_examples.specs.Words.{WordExamples}

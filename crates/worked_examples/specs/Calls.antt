@@ -14,7 +14,8 @@ use Rattle.protocol.specs.declared.types.Stand.TheVariants.{Listening}
 use Rattle.protocol.specs.declared.types.Step.{Step}
 use Rattle.protocol.specs.declared.types.Step.TheVariants.{Send, Deliver, Drop, Repeat, Turn, Crash}
 use Rattle.protocol.specs.World.{World, station, shut}
-use Rattle.protocol.specs.Calls.{open_refusal, opened, with_stations, with_pool, deliver_call, step, after, refusals}
+use Rattle.protocol.specs.Steps.{step, after, refusals}
+use Rattle.protocol.specs.Calls.{open_refusal, opened, with_stations, with_pool, deliver_call}
 use Rattle.protocol.specs.Tally.{start, tally}
 use Rattle.protocol.specs.Guarantee.{entry}
 

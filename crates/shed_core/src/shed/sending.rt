@@ -1,9 +1,10 @@
 // A station writes its letters.
-ghost use Rattle.std.specs.Prelude.{◌≡◌, ◌<◌, ◌≤◌, get_or, IfSome, slice_index_or, slice_set};
-ghost use Rattle.protocol.specs.World.{blank};
+ghost use Rattle.std.specs.Prelude.{◌≡◌, ◌<◌, ◌≤◌, IfSome, slice_set};
+ghost use Rattle.rules.specs.declared.TheConstants.{LAST_ROUND};
+ghost use Rattle.protocol.specs.Records.{due, listened};
+ghost use Rattle.protocol.specs.Calls.{frames_from, send_call, copied, taken_in};
 ghost use Rattle.shed_core.specs.Of.{world_of, ComesTo, StillLent, SameCounts};
-ghost use Rattle.protocol.specs.Calls.{frames_from, send_call, copied, listened, taken_in};
-ghost use Rattle.protocol.specs.Records.{due};
+ghost use Rattle.shed_core.specs.Checks.{record_of};
 
 use crate::buffers::Buffers;
 use crate::cells::store;
@@ -28,7 +29,7 @@ fn copy_letter<L: Copy>(letters: &mut [L], from: usize, to: usize)
 impl Shed {
     // The frames of the letters that station p writes in a round, by rising receiver.
     fn gather<R: Rule>(&self, rule: &R, p: usize, round: u16, state: &R::State) -> ArrayVec<u64, 16>
-        requires { (p < self.now.count) × (round ≤ 4095) }
+        requires { (p < self.now.count) × (round ≤ LAST_ROUND) }
         ensures { result.items ≡ frames_from (R.Rule.behaviour rule.now) self.now.count p round state.now 0 self.now.count }
     {
         let mut frames = ArrayVec::new();
@@ -42,7 +43,7 @@ impl Shed {
 
     // The sender of a letter that station p holds for its own round.
     fn due_sender(&self, p: usize) -> Option<usize>
-        ensures sender { result ≡ due (get_or self.now.table.records p blank).hold (get_or self.now.table.records p blank).round }
+        ensures sender { result ≡ due (record_of self.now p) }
         ensures below { IfSome result (λ q. q < self.now.count) }
     {
         let station = self.table.record(p);
@@ -59,11 +60,8 @@ impl Shed {
         requires { p < self.old.count }
         ensures counts { SameCounts self.old self.new }
         ensures table { self.new.table.records ≡ slice_set self.old.table.records p
-            (listened (slice_index_or self.old.table.records p blank)
-            (due (get_or self.old.table.records p blank).hold (get_or self.old.table.records p blank).round)) }
-        ensures row { letters.new ≡ taken_in self.old.count p
-            (due (get_or self.old.table.records p blank).hold (get_or self.old.table.records p blank).round)
-            letters.old }
+            (listened (record_of self.old p) (due (record_of self.old p))) }
+        ensures row { letters.new ≡ taken_in self.old.count p (due (record_of self.old p)) letters.old }
     {
         let mut station = self.table.record(p);
         if let Some(sender) = self.due_sender(p) {

@@ -1,8 +1,9 @@
 // A station goes to its next round.
-ghost use Rattle.std.specs.Prelude.{◌≡◌, ◌<◌, None, if◌then◌else◌, length, nat_lt, take};
+ghost use Rattle.std.specs.Prelude.{◌≡◌, ◌<◌, IfOk, None, if◌then◌else◌, length, nat_lt, slice_index, take};
 ghost use Rattle.lists.specs.Lists.{tabulate};
 ghost use Rattle.stations.specs.declared.TheConstants.{STATIONS};
 ghost use Rattle.shed_core.specs.Of.{world_of, ComesTo, StillLent};
+ghost use Rattle.protocol.specs.Sound.{NamesStations};
 ghost use Rattle.protocol.specs.Calls.{mail, turn_call};
 
 use crate::buffers::Buffers;
@@ -34,8 +35,7 @@ impl Shed {
         }
     }
 
-    // Station p's mailbox: in its first n places what it heard of each station. An array, which asks for no memory; recount
-    // has one line like it for its own letters, and a function of both would say more than each.
+    // Station p's mailbox: in its first n places what it heard of each station.
     fn mailbox<S, L: Copy>(
         &self,
         buffers: &Buffers<'_, S, L>,
@@ -50,8 +50,8 @@ impl Shed {
         array::from_fn(|q| self.letter_from(buffers.letters, p, heard, q))
     }
 
-    // Station p takes its next state from the letters that it heard, the book tells whom it heard, and p is fresh in
-    // the next round; answers that round.
+    // Station p takes its next state from the letters that it heard, the book tells whom it heard, who are stations
+    // of the shed, and p is fresh in the next round; answers that round.
     pub fn turn<R: Rule>(
         &mut self,
         rule: &R,
@@ -60,6 +60,7 @@ impl Shed {
     ) -> Result<u16, Refusal>
         ensures call { ComesTo result (world_of self.new buffers.new)
             (turn_call (R.Rule.behaviour rule.now) (world_of self.old buffers.old) p) }
+        ensures named { IfOk result (λ _. NamesStations self.old.count (slice_index buffers.new.book.now self.old.entries)) }
         ensures lent { StillLent buffers.old buffers.new }
     {
         self.ready(buffers)?;

@@ -1,7 +1,7 @@
 use Rattle.std.proofs.Common.{◌≡◌, drop}
 use Rattle.lists.specs.Lists.{put}
 use Rattle.shed_core.specs.Of.{world_of, StillLent}
-use Rattle.protocol.specs.Calls.{after, refusals}
+use Rattle.protocol.specs.Steps.{after, refusals}
 use Rattle.conduct.proofs.steps.take_steps.Given as goal
 
 -- what the steps that are left leave and tell is what all leave and tell

@@ -18,7 +18,8 @@ returns-clause-call g c =
     let fine = opens R (g.met.R.Rule.interface c.args.rule.now) w values none in
     let first : ℕ → _ = λ (p : ℕ). R.first (length values) p (get_or values p 0) in
     accepted w (opened R w values) _ (length values) (open_refusal R w values) none
-    (same_world refl (ap length c.clear.ensures ∙ length-replicate (length b.pool.now) 0) (ap length c.clear-2.ensures ∙ length-replicate (length b.book.now) 0) refl refl
+    (same_world refl (ap length c.clear.ensures ∙ length-replicate (length b.pool.now) 0)
+    (ap length c.clear-2.ensures ∙ length-replicate (length b.book.now) 0) refl refl
     c.new.ensures (c.first_states.ensures ∙ put_table (length values) first b.states.now fine.states) refl c.clear.ensures c.clear-2.ensures)
 
 pub invariant_of-self-clause-sound : goal.invariant_of-self-clause-sound

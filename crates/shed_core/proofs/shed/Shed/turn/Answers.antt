@@ -38,5 +38,6 @@ invariant_of-self-clause-sound g c =
     let old = record_of s p in
     let known = c.in_ok-station.ensures.1 in
     let fails = none_holds (turner_tests n p old s.entries s.book_len) c.in_ok-station.ensures.0 in
-    changed_sound n p s.table.records _ (record old { round = old.round + 1; stand = Fresh; heard = none }) (rw (known, c.empty-station.ensures.set) at c.change.ensures) s.sound
+    changed_sound n p s.table.records _ (record old { round = old.round + 1; stand = Fresh; heard = none })
+    (rw (known, c.empty-station.ensures.set) at c.change.ensures) s.sound
     (turned_sound n p (leb-false n p (fails 0)) old (s.sound p) (eqb-false old.round 4095 (fails 4)))
