@@ -87,6 +87,14 @@ def words_of(path):
     return set(re.findall(r"[^\W\d][\w]*", path.read_text("utf-8", errors="replace")))
 
 
+def declared_in(path):
+    """What a file of definitions declares, and every word of any other file."""
+    if path.suffix != ".antt":
+        return words_of(path) | {path.stem}
+    declared = re.findall(r"^\s*(?:abbrev |unfoldable )?(?:pub )?(?:record )?([^\W\d]\w*)\s*[:({]", path.read_text("utf-8"), re.M)
+    return set(declared) | {path.stem}
+
+
 def code_words():
     """Every word of the code, the definitions and the proofs, and of the names of files."""
     found = set()
@@ -135,7 +143,7 @@ def check_names(page, known):
                         wrong(page, number, f"no such edit: {crate}/must-fail/{label}.edit")
             files = [f for f in (source(page, target) for _, target in links(cell)) if f]
             if files:
-                there = set().union(*(words_of(f) for f in files)) | {f.stem for f in files}
+                there = set().union(*(declared_in(f) for f in files))
                 for name in (n for tick in ticks(cell) for n in names_in(tick)):
                     if name not in there:
                         wrong(page, number, f"{name} does not stand in {', '.join(str(f) for f in files)}")
@@ -143,7 +151,7 @@ def check_names(page, known):
             for text, target in links(line):
                 file = source(page, target)
                 for name in (n for tick in ticks(text) for n in names_in(tick)):
-                    if file and name not in words_of(file) | {file.stem}:
+                    if file and name not in declared_in(file):
                         wrong(page, number, f"{name} does not stand in {file}")
 
 
