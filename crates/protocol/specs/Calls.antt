@@ -1,6 +1,6 @@
 -- What each call answers and leaves, by cases.
-use Rattle.std.specs.Prelude.{ℕ, zero, suc, ◌+◌, ◌-◌, Bool, cond, not, ◌||◌, List, [], ◌∷◌, ◌++◌, length, get_or, set, replicate, Some, None, Ok, Err}
-use Rattle.std.specs.Prelude.{Option, Result, ◌==◌, nat_lt, slice_index, slice_index_or, slice_set}
+use Rattle.std.specs.Prelude.{ℕ, zero, suc, ◌+◌, ◌-◌, Bool, cond, not, ◌||◌, List, [], ◌∷◌, ◌++◌, length, slice_index_or, replicate, Some, None, Ok, Err}
+use Rattle.std.specs.Prelude.{Option, Result, ◌==◌, nat_lt, slice_index, slice_set}
 use Rattle.lists.specs.Lists.{tabulate, written, put}
 use Rattle.stations.specs.declared.StationSet.{StationSet}
 use Rattle.stations.specs.declared.TheConstants.{STATIONS}
@@ -26,7 +26,7 @@ use Rattle.protocol.specs.World.{World, station}
 
 -- the letter of one cell copied into another
 abbrev pub copied : {L : Type 0} → List L → ℕ → ℕ → List L
-copied letters from to = elim (slice_get letters from) [ None ↦ letters | Some l ↦ set letters to l ]
+copied letters from to = elim (slice_get letters from) [ None ↦ letters | Some l ↦ slice_set letters to l ]
 
 -- the letters when p's held letter has moved into the cell of its sender
 abbrev pub taken_in : {L : Type 0} → ℕ → ℕ → Option ℕ → List L → List L
@@ -41,8 +41,8 @@ mail n p heard letters q = cond (contains heard q) (slice_get letters (letter_ce
 abbrev pub received_stations : {L : Type 0} → List StationRecord → Frame L → Fate → List StationRecord
 received_stations rs f Late = rs
 received_stations rs f Again = rs
-received_stations rs f Taken = slice_set rs f.1 (hearing (get_or rs f.1 blank) f.0)
-received_stations rs f Early = slice_set rs f.1 (holding (get_or rs f.1 blank) (record { sender = f.0; round = f.2 }))
+received_stations rs f Taken = slice_set rs f.1 (hearing (slice_index_or rs f.1 blank) f.0)
+received_stations rs f Early = slice_set rs f.1 (holding (slice_index_or rs f.1 blank) (record { sender = f.0; round = f.2 }))
 
 -- the letters likewise: the frame's letter lies in its sender's cell, or in that of the held letter
 abbrev pub received_letters : {L : Type 0} → ℕ → List L → Frame L → Fate → List L

@@ -1,6 +1,6 @@
 -- The tally: what a list of calls should come to, told from the calls and from which were refused, without frames, cells or heard marks.
-use Rattle.std.specs.Prelude.{ℕ, zero, suc, ◌+◌, ◌-◌, false, cond, not, ◌&&◌, ◌||◌, List, [], ◌∷◌, ◌++◌, length, get_or, take, Some, None, Option}
-use Rattle.std.specs.Prelude.{◌==◌, nat_lt, slice_index_or, slice_set}
+use Rattle.std.specs.Prelude.{ℕ, zero, suc, ◌+◌, ◌-◌, false, cond, not, ◌&&◌, ◌||◌, List, [], ◌∷◌, ◌++◌, length, slice_index_or, take, Some, None, Option}
+use Rattle.std.specs.Prelude.{◌==◌, nat_lt, slice_set}
 use Rattle.stations.specs.declared.StationSet.{StationSet}
 use Rattle.stations.specs.Stations.{contains, set_of}
 use Rattle.rules.specs.Rule.{Behaviour, Heard, lockstep}
@@ -67,7 +67,7 @@ module _ {S L : Type 0} (R : Behaviour S L) (values : List ℕ) where
   unfoldable pub tally_accepted : Tally → Step → Tally
   tally_accepted t (Send p) = record t { slips = t.slips ++ slips_from t p 0 (length values) }
   tally_accepted t (Deliver k) =
-      let s : Slip = get_or t.slips k nowhere in
+      let s : Slip = slice_index_or t.slips k nowhere in
       record t {
         slips = swap_out nowhere t.slips k;
         notes = λ p r q. t.notes p r q || (s.receiver == p && s.round == r && s.sender == q && not (nat_lt s.round (t.rounds s.receiver)));

@@ -15,7 +15,7 @@ pub record World (S L : Type 0) : Type 0 where
   pub entries : ℕ
   -- a record for each station
   pub stations : List StationRecord
-  -- the four buffers: a state for each station, a row of n + 1 letters for each station, and two of words
+  -- the four buffers: a state for each station, a row of letters for each station, and two of words
   pub states : List S
   pub letters : List L
   pub pool : List ℕ

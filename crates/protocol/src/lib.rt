@@ -1,4 +1,4 @@
-// The shed's calls as definitions, the tally, and what holds after every list of calls.
+//! The shed's calls as definitions, the tally, and what holds after every list of calls.
 #![tactic(auto)]
 
 ghost use Rattle.protocol.specs.Guarantee.{Guaranteed};
@@ -14,7 +14,7 @@ pub const MAX_POOL: usize = 4096;
 /// The most words of a book.
 pub const MAX_BOOK: usize = 65536;
 
-// The guarantee holds for every rule, by its interface and its laws alone.
+/// The guarantee holds for every rule, by its interface and its laws alone.
 pub fn guarantee_holds<R: Rule>(rule: &R) -> u8
     ensures { Guaranteed (R.Rule.behaviour rule.now) }
 {

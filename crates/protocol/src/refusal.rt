@@ -1,42 +1,42 @@
-// Why a call is refused.
+//! Why a call is refused.
 ghost use Rattle.std.specs.Prelude.{◌≡◌};
 ghost use Rattle.protocol.specs.Refusals.{reason, refusal_number, of_pool};
 
 use frames::pool::PoolRefusal;
 use refusal_numbers::Reason;
 
-// In checking order. Whatever is refused leaves the shed and its buffers as they were.
+/// In checking order. Whatever is refused leaves the shed and its buffers as they were.
 #[derive(Clone, Copy, Debug, PartialEq, Eq)]
 pub enum Refusal {
-    // The shed is not open.
+    /// The shed is not open.
     Shut,
-    // The shed is open already.
+    /// The shed is open already.
     AlreadyOpen,
-    // There are no opening values, or more than the rule's most stations.
+    /// There are no opening values, or more than the rule's most stations.
     ValueCount,
-    // The pool is empty or too long, or the book is too long.
+    /// The pool is empty or too long, or the book is too long.
     BufferSize,
-    // A buffer is too short, or the pool or the book has another length than at opening.
+    /// A buffer is too short, or the pool or the book has another length than at opening.
     BufferMismatch,
     NoSuchStation,
     NoSuchPlace,
-    // The word at the place is no frame of these stations and this rule.
+    /// The word at the place is no frame of these stations and this rule.
     Unreadable,
     StationDown,
-    // The station listens: it has sent in this round.
+    /// The station listens: it has sent in this round.
     AlreadySent,
-    // The station is fresh: it has not sent in this round.
+    /// The station is fresh: it has not sent in this round.
     NotListening,
-    // The station holds a letter for a later round.
+    /// The station holds a letter for a later round.
     HoldsLetter,
     PoolFull,
     BookFull,
-    // The station is in the last round, or a run is asked for past it.
+    /// The station is in the last round, or a run is asked for past it.
     LastRound,
 }
 
 impl Refusal {
-    // The number by which a listing tells the refusal.
+    /// The number by which a listing tells the refusal.
     pub fn number(&self) -> u8
         ensures { result ≡ refusal_number self.now }
     {

@@ -1,4 +1,4 @@
-// What the shed keeps of a station, what it is asked to do, and what it answers.
+//! What the shed keeps of a station, what it is asked to do, and what it answers.
 ghost use Rattle.std.specs.Prelude.{◌≡◌};
 ghost use Rattle.protocol.specs.Records.{judged};
 
@@ -6,7 +6,7 @@ use crate::refusal::Refusal;
 use stations::StationSet;
 use std::cmp::Ordering;
 
-// Where a station is in its round: it has not sent yet, it has sent and takes letters, or it has crashed for good.
+/// Where a station is in its round: it has not sent yet, it has sent and takes letters, or it has crashed for good.
 #[derive(Clone, Copy, Debug, PartialEq, Eq)]
 pub enum Stand {
     Fresh,
@@ -14,14 +14,14 @@ pub enum Stand {
     Down,
 }
 
-// A letter that came before its round: who sent it, and the round that it is for.
+/// A letter that came before its round: who sent it, and the round that it is for.
 #[derive(Clone, Copy, Debug, PartialEq, Eq)]
 pub struct Held {
     pub sender: usize,
     pub round: u16,
 }
 
-// A station: its round, its stand, the senders that it heard in that round, and the letter that it holds or none.
+/// A station: its round, its stand, the senders that it heard in that round, and the letter that it holds or none.
 #[derive(Clone, Copy, Debug, PartialEq, Eq)]
 pub struct StationRecord {
     pub round: u16,
@@ -31,8 +31,8 @@ pub struct StationRecord {
 }
 
 impl StationRecord {
-    // The fate of a frame of a round from a sender, or why the station does not take it: it is down, it has not sent in
-    // its round, or it holds a letter.
+    /// The fate of a frame of a round from a sender, or why the station does not take it: it is down, it has not sent in
+    /// its round, or it holds a letter.
     pub fn judge(&self, sender: usize, round: u16) -> Result<Fate, Refusal>
         ensures { result ≡ judged self.now sender round }
     {
@@ -48,8 +48,8 @@ impl StationRecord {
     }
 }
 
-// What becomes of a frame that is delivered: it is of an older round; it is of the station's round and its sender was
-// heard already; it is of the station's round and is taken in; or it is of a newer round and is held.
+/// What becomes of a frame that is delivered: it is of an older round; it is of the station's round and its sender was
+/// heard already; it is of the station's round and is taken in; or it is of a newer round and is held.
 #[derive(Clone, Copy, Debug, PartialEq, Eq)]
 pub enum Fate {
     Late,
@@ -58,7 +58,7 @@ pub enum Fate {
     Early,
 }
 
-// A planner's call, with the station or the place in the pool that it names.
+/// A planner's call, with the station or the place in the pool that it names.
 #[derive(Clone, Copy, Debug, PartialEq, Eq)]
 pub enum Step {
     Send(usize),
@@ -69,7 +69,7 @@ pub enum Step {
     Crash(usize),
 }
 
-// What is seen of a station: its stand, its round, and the hull that it shows or none.
+/// What is seen of a station: its stand, its round, and the hull that it shows or none.
 #[derive(Clone, Copy, Debug, PartialEq, Eq)]
 pub struct Sight {
     pub stand: Stand,

@@ -1,7 +1,7 @@
-// What a call is lent beside its rule.
+//! What a call is lent beside its rule.
 
-// The four buffers: a state for each station, a row of n + 1 letters for each of n stations, and two of words. How long
-// they are, and what lies in them, is the lender's choice. The rule is no part of them: each call may be handed another.
+/// The four buffers: a state for each station, a row of letters for each station, and two of words. How long
+/// they are, and what lies in them, is the lender's choice. The rule is no part of them: each call may be handed another.
 #[derive(Drop)]
 pub struct Buffers<'a, S, L> {
     pub states: &'a mut [S],

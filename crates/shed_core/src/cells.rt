@@ -1,4 +1,4 @@
-// Cells of letters and of records.
+//! Cells of letters and of records.
 ghost use Rattle.std.specs.Prelude.{◌≡◌, slice_set};
 
 // Writes into a cell, if there is one.

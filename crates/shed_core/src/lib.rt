@@ -1,4 +1,4 @@
-// The shed and its calls.
+//! The shed and its calls.
 #![tactic(auto)]
 
 pub mod buffers;

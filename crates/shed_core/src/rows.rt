@@ -1,4 +1,4 @@
-// The rows of letters: how many cells they have, and which is whose.
+//! The rows of letters: how many cells they have, and which is whose.
 ghost use Rattle.std.specs.Prelude.{◌≡◌, ◌<◌, ◌≤◌};
 ghost use Rattle.protocol.specs.Rows.{row_cells, letter_cells, letter_cell, held_cell};
 

@@ -1,4 +1,4 @@
-// The shed: the number of stations, its buffers' lengths, its counts and a record for each station.
+//! The shed: the number of stations, its buffers' lengths, its counts and a record for each station.
 ghost use Rattle.std.specs.Prelude.{◌≤◌};
 ghost use Rattle.protocol.specs.Sound.{AllSound};
 

@@ -1,4 +1,4 @@
-// The stations' records.
+//! The stations' records.
 ghost use Rattle.std.specs.Prelude.{◌≡◌, ◌<◌, replicate, slice_index_or, slice_set};
 ghost use Rattle.stations.specs.declared.TheConstants.{STATIONS};
 ghost use Rattle.protocol.specs.Records.{blank, hearing, holding};
@@ -7,13 +7,13 @@ use crate::cells::store;
 use protocol::types::{Held, Stand, StationRecord};
 use stations::{STATIONS, StationSet};
 
-// One record for each of sixteen stations; a shed with fewer uses the first.
+/// One record for each of sixteen stations; a shed with fewer uses the first.
 #[derive(Clone, Copy, Debug, PartialEq, Eq)]
 pub struct Table {
     records: [StationRecord; STATIONS],
 }
 
-// A station in round 0 that has sent, heard and held nothing.
+/// A station in round 0 that has sent, heard and held nothing.
 pub fn blank_record() -> StationRecord
     ensures { result ≡ blank }
 {
@@ -34,7 +34,7 @@ impl Table {
         }
     }
 
-    // The record of station p; past the last station, one that did nothing yet.
+    /// The record of station p; past the last station, one that did nothing yet.
     pub fn record(&self, p: usize) -> StationRecord
         ensures { result ≡ slice_index_or self.now.records p blank }
     {
@@ -49,7 +49,7 @@ impl Table {
         &self.records[p]
     }
 
-    // Gives station p another record.
+    /// Gives station p another record.
     pub fn change(&mut self, p: usize, new: StationRecord)
         ensures { self.new.records ≡ slice_set self.old.records p new }
     {

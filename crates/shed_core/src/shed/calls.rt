@@ -1,4 +1,4 @@
-// The calls that read and write no letter cell: drop, repeat, crash and look.
+//! The calls that read and write no letter cell: drop, repeat, crash and look.
 ghost use Rattle.std.specs.Prelude.{◌≡◌};
 ghost use Rattle.shed_core.specs.Of.{world, world_of, ComesTo, StillLent};
 ghost use Rattle.protocol.specs.Calls.{drop_call, repeat_call, crash_call, look_call};
@@ -11,7 +11,7 @@ use protocol::types::{Sight, Stand};
 use rules::Rule;
 
 impl Shed {
-    // The frame at place k is lost.
+    /// The frame at place k is lost.
     pub fn drop<R: Rule>(
         &mut self,
         rule: &R,
@@ -27,7 +27,7 @@ impl Shed {
         Ok(0)
     }
 
-    // A copy of the frame at place k joins the pool at its end; answers the copy's place.
+    /// A copy of the frame at place k joins the pool at its end; answers the copy's place.
     pub fn repeat<R: Rule>(
         &mut self,
         rule: &R,
@@ -44,7 +44,7 @@ impl Shed {
         Ok(place)
     }
 
-    // Station p is down for good.
+    /// Station p is down for good.
     pub fn crash<R: Rule>(
         &mut self,
         rule: &R,
@@ -62,8 +62,8 @@ impl Shed {
         Ok(0)
     }
 
-    // What station p shows: its stand, its round, and its hull or none. The buffers are lent one by one, as whoever only
-    // looks may share them.
+    /// What station p shows: its stand, its round, and its hull or none. The buffers are lent one by one, as whoever only
+    /// looks may share them.
     pub fn look<R: Rule>(
         &self,
         rule: &R,
@@ -86,7 +86,7 @@ impl Shed {
         })
     }
 
-    // How many entries the book has.
+    /// How many entries the book has.
     pub fn entries(&self) -> usize
         ensures { result ≡ self.now.entries }
     {

@@ -1,4 +1,4 @@
-// What the calls ask for before they act.
+//! What the calls ask for before they act.
 ghost use Rattle.std.specs.Prelude.{[], ◌∷◌};
 ghost use Rattle.protocol.specs.Tests.{ready_tests, station_tests, standing_tests, speaker_tests, turner_tests};
 ghost use Rattle.shed_core.specs.Of.{world, world_of};

@@ -1,4 +1,4 @@
-// A frame reaches its receiver.
+//! A frame reaches its receiver.
 ghost use Rattle.std.specs.Prelude.{◌≡◌, ◌<◌, ◌≤◌};
 ghost use Rattle.rules.specs.declared.TheConstants.{LAST_ROUND};
 ghost use Rattle.shed_core.specs.Of.{world_of, ComesTo, StillLent, SameCounts};
@@ -36,7 +36,7 @@ impl Shed {
         }
     }
 
-    // The frame at place k leaves the pool and meets its fate, which is the answer.
+    /// The frame at place k leaves the pool and meets its fate, which is the answer.
     pub fn deliver<R: Rule>(
         &mut self,
         rule: &R,

@@ -1,4 +1,4 @@
-// A new shed, and its opening.
+//! A new shed, and its opening.
 ghost use Rattle.std.specs.Prelude.{◌≡◌, Some, None, MatchResult};
 ghost use Rattle.shed_core.specs.Of.{world_of, ComesTo, StillLent, IsNew};
 ghost use Rattle.protocol.specs.Calls.{open_refusal, open_call};
@@ -13,7 +13,7 @@ use protocol::{MAX_BOOK, MAX_POOL};
 use rules::{Rule, first_states};
 
 impl Shed {
-    // A shed that is shut.
+    /// A shed that is shut.
     pub fn new() -> Shed
         ensures { IsNew result }
     {
@@ -55,7 +55,7 @@ impl Shed {
         Ok(())
     }
 
-    // Opens the shed for as many stations as there are opening values; answers their number.
+    /// Opens the shed for as many stations as there are opening values; answers their number.
     pub fn open<R: Rule>(
         &mut self,
         rule: &R,

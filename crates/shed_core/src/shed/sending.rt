@@ -1,4 +1,4 @@
-// A station writes its letters.
+//! A station writes its letters.
 ghost use Rattle.std.specs.Prelude.{◌≡◌, ◌<◌, ◌≤◌, IfSome, slice_set};
 ghost use Rattle.rules.specs.declared.TheConstants.{LAST_ROUND};
 ghost use Rattle.protocol.specs.Records.{due, listened};
@@ -74,7 +74,7 @@ impl Shed {
         self.table.change(p, station);
     }
 
-    // Station p's letters of its round join the pool, by rising receiver, and p listens; answers their number.
+    /// Station p's letters of its round join the pool, by rising receiver, and p listens; answers their number.
     pub fn send<R: Rule>(
         &mut self,
         rule: &R,

@@ -1,4 +1,4 @@
-// A station goes to its next round.
+//! A station goes to its next round.
 ghost use Rattle.std.specs.Prelude.{◌≡◌, ◌<◌, IfOk, None, if◌then◌else◌, length, nat_lt, slice_index, take};
 ghost use Rattle.lists.specs.Lists.{tabulate};
 ghost use Rattle.stations.specs.declared.TheConstants.{STATIONS};
@@ -50,8 +50,8 @@ impl Shed {
         array::from_fn(|q| self.letter_from(buffers.letters, p, heard, q))
     }
 
-    // Station p takes its next state from the letters that it heard, the book tells whom it heard, who are stations
-    // of the shed, and p is fresh in the next round; answers that round.
+    /// Station p takes its next state from the letters that it heard, the book tells whom it heard, who are stations
+    /// of the shed, and p is fresh in the next round; answers that round.
     pub fn turn<R: Rule>(
         &mut self,
         rule: &R,
