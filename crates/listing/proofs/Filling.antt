@@ -9,10 +9,10 @@ use Rattle.protocol.specs.declared.types.Stand.{Stand}
 use Rattle.protocol.specs.declared.types.Stand.TheVariants.{Fresh, Listening, Down}
 use Rattle.listing.specs.declared.line.TheConstants.{CELLS}
 use Rattle.listing.specs.declared.line.Line.{Line}
-use Rattle.listing.specs.Lines.{Holds, line_text, stand_text}
+use Rattle.listing.specs.Lines.{HoldsText, line_text, stand_text}
 
 -- a line's text, and the blanks that its invariant has after it
-pub holds : (line : Line) (text : List ℕ) → line_text line ≡ text → Holds line text
+pub holds : (line : Line) (text : List ℕ) → line_text line ≡ text → HoldsText line text
 holds line text e =
     let count : line.filled ≡ length text = sym (length-take-le line.filled line.cells (omega (arith, line.all, line.within))) ∙ ap length e in
     record {

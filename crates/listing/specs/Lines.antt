@@ -16,7 +16,7 @@ abbrev pub line_text : Line → List ℕ
 line_text line = take line.filled line.cells
 
 -- the cells hold the text, and blanks after it
-pub record Holds (line : Line) (text : List ℕ) : Type 0 where
+pub record HoldsText (line : Line) (text : List ℕ) : Type 0 where
   pub fits : length text ≤ CELLS
   pub cells : line.cells ≡ text ++ replicate (CELLS - length text) 32
   pub length_is : line.filled ≡ length text

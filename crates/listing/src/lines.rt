@@ -2,7 +2,7 @@
 ghost use Rattle.std.specs.Prelude.{◌≡◌, ◌+◌, ◌<◌, ◌≤◌, ◌++◌, length, decimal};
 ghost use Rattle.stations.specs.declared.TheConstants.{STATIONS};
 ghost use Rattle.listing.specs.declared.line.TheConstants.{CELLS};
-ghost use Rattle.listing.specs.Lines.{Holds, line_text, refusal_text, stand_text, hull_text, station_text, book_text, fault_text};
+ghost use Rattle.listing.specs.Lines.{HoldsText, line_text, refusal_text, stand_text, hull_text, station_text, book_text, fault_text};
 
 use crate::line::Line;
 use protocol::refusal::Refusal;
@@ -13,7 +13,7 @@ use schedule_text::types::Fault;
 #[tactic(auto, using(crate::proofs::Filling::decimal_20))]
 fn two_numbers(first: &[u8], one: usize, second: &[u8], other: usize) -> Line
     requires { length first.now + length second.now ≤ 24 }
-    ensures { Holds result (first.now ++ decimal one ++ second.now ++ decimal other) }
+    ensures { HoldsText result (first.now ++ decimal one ++ second.now ++ decimal other) }
 {
     let mut out = Line::blank();
     out.word(first);
@@ -25,7 +25,7 @@ fn two_numbers(first: &[u8], one: usize, second: &[u8], other: usize) -> Line
 
 // The line of a refused step.
 pub(crate) fn refusal_line(line: usize, refusal: Refusal) -> Line
-    ensures { Holds result (refusal_text line refusal) }
+    ensures { HoldsText result (refusal_text line refusal) }
 {
     two_numbers(b"line ", line, b" refused ", usize::from(refusal.number()))
 }
@@ -59,7 +59,7 @@ fn hull_into(out: &mut Line, hull: Option<u16>)
 #[tactic(auto, using(crate::proofs::Filling::short))]
 pub(crate) fn station_line(station: usize, sight: Sight, air: usize) -> Line
     requires { (station < STATIONS) × (air < 10000) }
-    ensures { Holds result (station_text station sight air) }
+    ensures { HoldsText result (station_text station sight air) }
 {
     let mut out = Line::blank();
     out.word(b"station ");
@@ -76,7 +76,7 @@ pub(crate) fn station_line(station: usize, sight: Sight, air: usize) -> Line
 // The line that counts the book's entries.
 #[tactic(auto, using(crate::proofs::Filling::decimal_20))]
 pub(crate) fn book_line(entries: usize) -> Line
-    ensures { Holds result (book_text entries) }
+    ensures { HoldsText result (book_text entries) }
 {
     let mut out = Line::blank();
     out.word(b"book ");
@@ -86,7 +86,7 @@ pub(crate) fn book_line(entries: usize) -> Line
 
 // The one line that is printed of a text with a fault.
 pub(crate) fn fault_line(fault: Fault) -> Line
-    ensures { Holds result (fault_text fault) }
+    ensures { HoldsText result (fault_text fault) }
 {
     two_numbers(
         b"fault ",
