@@ -1,7 +1,6 @@
 -- A run that was carried out, and the listing that is made of it.
-use Rattle.std.proofs.Common.{◌≡◌, ℕ, zero, suc, ◌+◌, ◌-◌, ◌<◌, ◌≤◌, List, [], ◌∷◌, map, length, take, replicate, Some, None, Ok, Err, Option, sym}
+use Rattle.std.proofs.Common.{◌≡◌, ℕ, zero, suc, ◌<◌, ◌≤◌, List, [], ◌∷◌, length, take, Some, None, Ok, Err, Option, sym}
 use Rattle.std.proofs.Common.{refl, ap, ◌∙◌, arith}
-use Rattle.std.proofs.lemmas.List.{length-append, length-map, length-replicate}
 use Rattle.lists.specs.Lists.{tabulate}
 use Rattle.rules.specs.Rule.{Behaviour, Interface}
 use Rattle.lists.proofs.Options.{none_some}
@@ -11,12 +10,12 @@ use Rattle.protocol.specs.declared.TheConstants.{MAX_BOOK}
 use Rattle.protocol.specs.declared.refusal.Refusal.{Refusal}
 use Rattle.protocol.specs.declared.types.Sight.{Sight}
 use Rattle.protocol.specs.declared.types.Step.{Step}
+use Rattle.protocol.specs.declared.TheConstants.{MAX_BOOK}
 use Rattle.protocol.specs.World.{World}
 use Rattle.protocol.specs.Steps.{step, refusals}
 use Rattle.protocol.specs.Calls.{look_refusal, look_call, sight_of}
 use Rattle.protocol.proofs.Outcomes.{was_accepted}
-use Rattle.protocol.specs.Tally.{Triple, start, tally}
-use Rattle.protocol.specs.Guarantee.{Guarantee, entry}
+use Rattle.protocol.specs.Guarantee.{Guarantee}
 use Rattle.shed_core.specs.declared.shed.Shed.{Shed}
 use Rattle.shed_core.specs.declared.buffers.Buffers.{Buffers}
 use Rattle.schedule_text.specs.declared.halt.Halt.{Halt}
@@ -28,7 +27,6 @@ use Rattle.listing.specs.Listing.{listing_text}
 use Rattle.schedule_text.specs.declared.reader.TheConstants.{FIRST_STEP}
 use Rattle.schedule.specs.Program.{refused_from, sights, begun, over, run_listing, hull_at, ListsOneHull}
 use Rattle.schedule.specs.Running.{Seen, Listed, Runs}
-use Rattle.schedule.proofs.Openings.{accepted}
 
 -- each call of a list has its place in the list of refusals
 length_refusals : {S L : Type 0} (R : Behaviour S L) (w : World S L) (steps : List Step) → length (refusals R w steps) ≡ length steps
@@ -83,24 +81,13 @@ module _ {S L : Type 0} (R : Behaviour S L) (new : World S L) (values : List ℕ
     entries_are = ap (λ w. w.entries) ran.leaves
 
     pub within : s.entries ≤ length left.book.now
-    within =
-        let g : Guarantee R values (begun R new values steps) steps = ran.guaranteed in
-        let ts : List Triple = (tally R values start steps (refusals R (begun R new values steps) steps)).triples in
-        let free : List ℕ = replicate (length (begun R new values steps).book - length ts) 0 in
-        let sum : length (over R new values steps).book ≡ length (map entry ts) + length free = ap length g.recorded ∙ length-append (map entry ts) free in
-        omega (arith, entries_are, ap length book_is, sum, length-map ts entry, g.filled)
+    within = omega (arith, entries_are, ap length book_is, ran.guaranteed.fits)
 
     pub values_few : Interface R → length values ≤ STATIONS
-    values_few face = omega (arith, face.most_few, (accepted R new values ran.opens).few)
+    values_few face = omega (arith, face.most_few, ran.guaranteed.sized.few)
 
     pub book_short : length left.book.now ≤ MAX_BOOK
-    book_short = omega (
-      arith,
-      ap length book_is,
-      ran.guaranteed.sized.book,
-      length-replicate {A = ℕ} (length new.book) 0,
-      (accepted R new values ran.opens).book,
-    )
+    book_short = omega (arith, ap length book_is, ran.guaranteed.sized.book, ran.guaranteed.sized.book_few)
 
     -- where there is a cell for each step, each outcome is told
     all_told : length blank ≡ length steps → told ≡ refusals R (begun R new values steps) steps
