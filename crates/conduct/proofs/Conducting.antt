@@ -10,14 +10,13 @@ use Rattle.shed_core.specs.Of.{world_of, shut_with, ComesTo, IsNew}
 use Rattle.protocol.specs.Steps.{after, refusals}
 use Rattle.protocol.specs.Calls.{open_refusal, open_call, opened}
 use Rattle.conduct.specs.Conduct.{CarriedOut, Conducted}
-use Rattle.shed_core.proofs.Worlds.{same_world}
 use Rattle.protocol.proofs.Outcomes.{was_accepted, was_refused}
 use Rattle.protocol.proofs.Guaranteed.{guaranteed}
 
 module _ {S L : Type 0} (R : Behaviour S L) (values : List ℕ) (steps : List Step)
     (fresh s : Shed) (b b' : Buffers S L) (new : IsNew fresh) (r : Result ℕ Refusal) (opening : ComesTo r (world_of s b') (open_call R (world_of fresh b) values)) where
   is_shut : world_of fresh b ≡ shut_with b
-  is_shut = same_world new.shut new.no_pool new.no_book new.no_frames new.no_entries new.blanks refl refl refl refl
+  is_shut = rw (new.shut, new.no_pool, new.no_book, new.no_frames, new.no_entries, new.blanks) refl
 
   call : ComesTo r (world_of s b') (open_call R (shut_with b) values)
   call = subst (λ w. ComesTo r (world_of s b') (open_call R w values)) is_shut opening

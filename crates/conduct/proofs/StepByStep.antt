@@ -49,7 +49,3 @@ pub refusals_all :
     put xs i (refusals R w (drop i calls)) ≡ told → xs ≡ told
 unfolding refusals
 refusals_all R w xs told calls i h e = let done : refusals R w (drop i calls) ≡ [] = at_drop_all (refusals R w) calls i h in sym (ap (put xs i) done) ∙ e
-
--- what is written past the end is lost
-pub written : {A : Type 0} (xs : List A) (i : ℕ) (x : A) → length xs ≤ i → xs ≡ set xs i x
-written xs i x h = sym (set_past xs i x h)

@@ -14,9 +14,9 @@ use steps::take_steps;
 
 pub mod steps;
 
-// Opens a new shed on the buffers with the opening values and makes the steps, past refusals too. Answers the shed, and
-// writes each step's refusal or none into the outcomes, as far as there are cells. Refused is only the opening, and then
-// nothing is written.
+/// Opens a new shed on the buffers with the opening values and makes the steps, one after another and past refusals.
+/// Answers the shed, and writes each step's refusal or none into the outcomes, as far as there are cells. Only the opening
+/// is refused, for open's own reasons; then nothing is written, the outcomes neither.
 pub fn conduct<R: Rule>(
     rule: &R,
     buffers: &mut Buffers<'_, R::State, R::Letter>,

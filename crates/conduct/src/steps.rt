@@ -11,19 +11,19 @@ use rules::Rule;
 use shed_core::buffers::Buffers;
 use shed_core::shed::Shed;
 
-// Makes the call that a step names. Refused for the call's own reasons, and then nothing is written.
+/// Makes the call that a step names. Refused for the call's own reasons; then nothing is written.
 #[tactic(auto, using(crate::proofs::StepByStep::stepped), unfolding(protocol::specs::Steps::step))]
 pub fn take_step<R: Rule>(
     shed: &mut Shed,
     rule: &R,
     buffers: &mut Buffers<'_, R::State, R::Letter>,
-    call: Step,
+    made: Step,
 ) -> Result<(), Refusal>
     ensures call { ComesTo (result_err result) (world_of shed.new buffers.new)
-        (step (R.Rule.behaviour rule.now) (world_of shed.old buffers.old) call) }
+        (step (R.Rule.behaviour rule.now) (world_of shed.old buffers.old) made) }
     ensures lent { StillLent buffers.old buffers.new }
 {
-    match call {
+    match made {
         Step::Send(p) => {
             shed.send(rule, buffers, p)?;
         }
@@ -46,23 +46,23 @@ pub fn take_step<R: Rule>(
     Ok(())
 }
 
-// Makes the calls of a list, one after another and past refusals, and writes each one's refusal or none, as far as there
-// are cells.
+/// Makes the steps of a list, one after another and past refusals. Writes each one's refusal or none into the outcomes, as
+/// far as there are cells.
 pub fn take_steps<R: Rule>(
     shed: &mut Shed,
     rule: &R,
     buffers: &mut Buffers<'_, R::State, R::Letter>,
-    calls: &[Step],
+    steps: &[Step],
     outcomes: &mut [Option<Refusal>],
 )
     ensures leaves { world_of shed.new buffers.new
-        ≡ after (R.Rule.behaviour rule.now) (world_of shed.old buffers.old) calls.now }
+        ≡ after (R.Rule.behaviour rule.now) (world_of shed.old buffers.old) steps.now }
     ensures tells { outcomes.new ≡ put outcomes.old 0
-        (refusals (R.Rule.behaviour rule.now) (world_of shed.old buffers.old) calls.now) }
+        (refusals (R.Rule.behaviour rule.now) (world_of shed.old buffers.old) steps.now) }
     ensures lent { StillLent buffers.old buffers.new }
 {
-    for (i, call) in calls.iter().enumerate() {
-        let outcome = take_step(shed, rule, buffers, *call).err();
+    for (i, made) in steps.iter().enumerate() {
+        let outcome = take_step(shed, rule, buffers, *made).err();
         if i < outcomes.len() {
             outcomes[i] = outcome;
         }

@@ -1,6 +1,7 @@
-use Rattle.std.proofs.Common.{◌≡◌, set, ◌∙◌, rules}
+use Rattle.std.proofs.Common.{◌≡◌, set, sym, ◌∙◌, rules}
+use Rattle.std.proofs.lemmas.List.{set_past}
 use Rattle.shed_core.specs.Of.{world_of}
-use Rattle.conduct.proofs.StepByStep.{after_more, refusals_more, after_all, refusals_all, written}
+use Rattle.conduct.proofs.StepByStep.{after_more, refusals_more, after_all, refusals_all}
 use Rattle.conduct.proofs.steps.take_steps.Goals as goal
 use Rattle.conduct.proofs.steps.take_steps.Goals.{then-i-outcomes, else-i-outcomes}
 
@@ -15,11 +16,11 @@ loop-i-preserved g c =
     let x = c.err-outcome.result in
     let wrote : c.if-i-outcomes.outcomes ≡ set xs i x = elim c.if-i-outcomes.branch [
       | then-i-outcomes w ↦ w.outcomes-is
-      | else-i-outcomes w ↦ w.outcomes-is ∙ written xs i x w.if-i-outcomes.false
+      | else-i-outcomes w ↦ w.outcomes-is ∙ sym (set_past xs i x w.if-i-outcomes.false)
     ] in
     record {
-      leaves = after_more R w v c.args.calls.now i _ c.loop-i-test.true _ x c.take_step.ensures.call c.err-outcome.ensures.value xs _ wrote _ c.loop-i.invariant.leaves;
-      tells = refusals_more R w v c.args.calls.now i _ c.loop-i-test.true _ x c.take_step.ensures.call c.err-outcome.ensures.value xs _ wrote _ c.loop-i.invariant.tells;
+      leaves = after_more R w v c.args.steps.now i _ c.loop-i-test.true _ x c.take_step.ensures.call c.err-outcome.ensures.value xs _ wrote _ c.loop-i.invariant.leaves;
+      tells = refusals_more R w v c.args.steps.now i _ c.loop-i-test.true _ x c.take_step.ensures.call c.err-outcome.ensures.value xs _ wrote _ c.loop-i.invariant.tells;
       lent = search rules;
     }
 
@@ -28,7 +29,7 @@ returns g c =
     let R = g.R.Rule.behaviour c.args.rule.now in
     let w = world_of c.loop-i.shed c.loop-i.buffers in
     record {
-      leaves = after_all R w _ c.args.calls.now c.loop-i.i c.loop-i-test.false c.loop-i.invariant.leaves;
-      tells = refusals_all R w c.loop-i.outcomes _ c.args.calls.now c.loop-i.i c.loop-i-test.false c.loop-i.invariant.tells;
+      leaves = after_all R w _ c.args.steps.now c.loop-i.i c.loop-i-test.false c.loop-i.invariant.leaves;
+      tells = refusals_all R w c.loop-i.outcomes _ c.args.steps.now c.loop-i.i c.loop-i-test.false c.loop-i.invariant.tells;
       lent = search rules;
     }

@@ -11,7 +11,7 @@ invariant-loop-i g l =
     let w = world_of l.shed l.buffers in
     let first = world_of l.initial.shed l.initial.buffers in
     record {
-      leaves : after R w (drop l.i l.calls) ≡ after R first l.calls;
-      tells : put l.outcomes l.i (refusals R w (drop l.i l.calls)) ≡ put l.initial.outcomes 0 (refusals R first l.calls);
+      leaves : after R w (drop l.i l.steps) ≡ after R first l.steps;
+      tells : put l.outcomes l.i (refusals R w (drop l.i l.steps)) ≡ put l.initial.outcomes 0 (refusals R first l.steps);
       lent : StillLent l.initial.buffers l.buffers;
     }
