@@ -14,7 +14,8 @@ use Rattle.protocol.proofs.Outcomes.{was_accepted, was_refused}
 use Rattle.protocol.proofs.Guaranteed.{guaranteed}
 
 module _ {S L : Type 0} (R : Behaviour S L) (values : List ℕ) (steps : List Step)
-    (fresh s : Shed) (b b' : Buffers S L) (new : IsNew fresh) (r : Result ℕ Refusal) (opening : ComesTo r (world_of s b') (open_call R (world_of fresh b) values)) where
+    (fresh s : Shed) (b b' : Buffers S L) (new : IsNew fresh) (r : Result ℕ Refusal)
+    (opening : ComesTo r (world_of s b') (open_call R (world_of fresh b) values)) where
   is_shut : world_of fresh b ≡ shut_with b
   is_shut = rw (new.shut, new.no_pool, new.no_book, new.no_frames, new.no_entries, new.blanks) refl
 
@@ -28,7 +29,12 @@ module _ {S L : Type 0} (R : Behaviour S L) (values : List ℕ) (steps : List St
       let same : world_of s b' ≡ shut_with b = call.leaves ∙ d.1 in
       record {
         because = d.0;
-        untouched = record { same_states = ap (λ w. w.states) same; same_letters = ap (λ w. w.letters) same; same_pool = ap (λ w. w.pool) same; same_book = ap (λ w. w.book) same };
+        untouched = record {
+          same_states = ap (λ w. w.states) same;
+          same_letters = ap (λ w. w.letters) same;
+          same_pool = ap (λ w. w.pool) same;
+          same_book = ap (λ w. w.book) same;
+        };
         untold = refl;
       }
 

@@ -12,7 +12,8 @@ use Rattle.protocol.specs.Steps.{step, after, refusals}
 
 -- a step comes to what its call comes to
 pub stepped :
-    {A S L : Type 0} (R : Behaviour S L) (w : World S L) (given call : Step) (o : Result A Refusal × World S L) {r : Result A Refusal} {v : World S L} {x : Option Refusal} →
+    {A S L : Type 0} (R : Behaviour S L) (w : World S L) (given call : Step)
+    (o : Result A Refusal × World S L) {r : Result A Refusal} {v : World S L} {x : Option Refusal} →
     given ≡ call → step R w call ≡ (result_err o.0, o.1) → ComesTo r v o → x ≡ result_err r → ComesTo x v (step R w given)
 stepped R w given call o same e c f =
     let at : step R w given ≡ (result_err o.0, o.1) = ap (step R w) same ∙ e in
@@ -37,7 +38,8 @@ module _ {S L : Type 0} (R : Behaviour S L) (w v : World S L) (calls : List Step
       let more : refusals R w (drop i calls) ≡ s.0 ∷ rest s.1 = at_drop_more (refusals R w) calls i d h in
       let first : put xs i (refusals R w (drop i calls)) ≡ put (set xs i s.0) (suc i) (rest s.1) = ap (put xs i) more in
       let now : ys ≡ set xs i s.0 = wrote ∙ ap (set xs i) (same ∙ came.answers) in
-      ap (λ j. put ys j (rest v)) (add-one i) ∙ (ap (λ y. put y (suc i) (rest v)) now ∙ ap (λ u. put (set xs i s.0) (suc i) (rest u)) came.leaves ∙ sym first ∙ e)
+      ap (λ j. put ys j (rest v)) (add-one i) ∙
+      (ap (λ y. put y (suc i) (rest v)) now ∙ ap (λ u. put (set xs i s.0) (suc i) (rest u)) came.leaves ∙ sym first ∙ e)
 
 -- a list is done
 pub after_all : {S L : Type 0} (R : Behaviour S L) (w all : World S L) (calls : List Step) (i : ℕ) → length calls ≤ i → after R w (drop i calls) ≡ all → w ≡ all

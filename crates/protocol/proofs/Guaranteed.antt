@@ -1,5 +1,6 @@
 -- The guarantee, from the invariant after every list of calls.
-use Rattle.std.proofs.Common.{◌≡◌, ℕ, ◌-◌, ◌^◌, ◌<◌, ◌≤◌, Bool, List, [], ◌∷◌, ◌++◌, map, length, get_or, replicate, Some, None, Option, sym, refl, ap, ◌∙◌, arith}
+use Rattle.std.proofs.Common.{◌≡◌, ℕ, ◌-◌, ◌^◌, ◌<◌, ◌≤◌, Bool, List, [], ◌∷◌, ◌++◌, map, length, get_or, replicate, Some, None, Option, sym, refl}
+use Rattle.std.proofs.Common.{ap, ◌∙◌, arith}
 use mathlib.Core.Path.{fun_ext}
 use Rattle.std.proofs.lemmas.List.{length-append, length-map, length-replicate}
 use Rattle.rules.specs.Rule.{Behaviour, Laws, Ranges, Heard, Opening, lockstep}
@@ -96,7 +97,13 @@ guaranteed {S} {L} R letter_fits face laws ranges new values small fine calls =
       in_order = rw (i.entries_are, i.book_is) (entry_for_each u (accepted_turns calls (refusals R w calls)) (B - length u.triples) turns i.whole counts);
       recorded = rw (length-replicate {A = ℕ} (length new.book) 0) i.book_is;
       filled = i.entries_are;
-      fits = omega (arith, i.entries_are, ap length i.book_is, length-append (map entry u.triples) (replicate (B - length u.triples) 0), length-map u.triples entry);
+      fits = omega (
+        arith,
+        i.entries_are,
+        ap length i.book_is,
+        length-append (map entry u.triples) (replicate (B - length u.triples) 0),
+        length-map u.triples entry,
+      );
       counted = λ p h. (i.seats p h).round ∙ counts.rounds p ∙ ap (turns_by p) turns;
       limited = λ p h. omega (arith, (i.seats p h).round, (i.seats p h).limit);
       sized = sized;

@@ -1,7 +1,9 @@
 -- The number of each reason for a refusal.
 use Rattle.std.specs.Prelude.{◌≡◌, ℕ}
 use Rattle.refusal_numbers.specs.declared.Reason.{Reason}
-use Rattle.refusal_numbers.specs.declared.Reason.TheVariants.{Shut, AlreadyOpen, ValueCount, BufferSize, BufferMismatch, NoSuchStation, NoSuchPlace, Unreadable, StationDown, AlreadySent, NotListening, HoldsLetter, PoolFull, BookFull, LastRound, TooLong, WrongRule, WrongValues, WrongStep, Unfinished}
+use Rattle.refusal_numbers.specs.declared.Reason.TheVariants.{Shut, AlreadyOpen, ValueCount, BufferSize, BufferMismatch, NoSuchStation, NoSuchPlace}
+use Rattle.refusal_numbers.specs.declared.Reason.TheVariants.{Unreadable, StationDown, AlreadySent, NotListening, HoldsLetter, PoolFull, BookFull}
+use Rattle.refusal_numbers.specs.declared.Reason.TheVariants.{LastRound, TooLong, WrongRule, WrongValues, WrongStep, Unfinished}
 
 abbrev pub number_of : Reason → ℕ
 -- of a call, in checking order

@@ -18,9 +18,11 @@ loop-i-preserved g c =
       | then-i-outcomes w ↦ w.outcomes-is
       | else-i-outcomes w ↦ w.outcomes-is ∙ sym (set_past xs i x w.if-i-outcomes.false)
     ] in
+    let call = c.take_step.ensures.call in
+    let told = c.err-outcome.ensures.value in
     record {
-      leaves = after_more R w v c.args.steps.now i _ c.loop-i-test.true _ x c.take_step.ensures.call c.err-outcome.ensures.value xs _ wrote _ c.loop-i.invariant.leaves;
-      tells = refusals_more R w v c.args.steps.now i _ c.loop-i-test.true _ x c.take_step.ensures.call c.err-outcome.ensures.value xs _ wrote _ c.loop-i.invariant.tells;
+      leaves = after_more R w v c.args.steps.now i _ c.loop-i-test.true _ x call told xs _ wrote _ c.loop-i.invariant.leaves;
+      tells = refusals_more R w v c.args.steps.now i _ c.loop-i-test.true _ x call told xs _ wrote _ c.loop-i.invariant.tells;
       lent = search rules;
     }
 
