@@ -1,7 +1,9 @@
 -- What each request answers and leaves, and what a list of them does.
-use Rattle.std.specs.Prelude.{ℕ, ◌+◌, ◌*◌, cond, List, [], ◌∷◌, ◌++◌, length, min, take, drop, replicate, Some, None, Ok, Err, Option, Result, ◌==◌, nat_lt, slice_set}
+use Rattle.std.specs.Prelude.{ℕ, ◌+◌, ◌*◌, cond, List, [], ◌∷◌, ◌++◌, length, min, take, drop, replicate}
+use Rattle.std.specs.Prelude.{Some, None, Ok, Err, Option, Result, ◌==◌, nat_lt, slice_set}
 use Rattle.std.specs.List.{slice_get}
 use Rattle.lists.specs.Lists.{put}
+use Rattle.rules.specs.declared.TheConstants.{LAST_ROUND}
 use Rattle.rules.specs.Rule.{Behaviour}
 use Rattle.third_rule.specs.Third.{third}
 use Rattle.last_rule.specs.Last.{last}
@@ -48,11 +50,18 @@ abbrev pub reply_of : Result ℕ Refusal → Reply
 reply_of (Ok x) = record { refusal = 0; answer = x }
 reply_of (Err f) = record { refusal = refusal_number f; answer = 0 }
 
+-- the first k cells, or all; and those after them
+abbrev pub front : {A : Type 0} → ℕ → List A → List A
+front k cells = take (min k (length cells)) cells
+
+abbrev pub rest : {A : Type 0} → ℕ → List A → List A
+rest k cells = drop (min k (length cells)) cells
+
 module _ {S L : Type 0} (R : Behaviour S L) where
   -- ---- the shed's calls
   abbrev pub called : List ℕ → World S L → Request → Result ℕ Refusal × World S L
   called values w q =
-      cond (q.kind == 0) (open_call R w (take (min q.at (length values)) values))
+      cond (q.kind == 0) (open_call R w (front q.at values))
       (cond (q.kind == 1) (send_call R w q.at)
       (cond (q.kind == 2) (as_number fate_number (deliver_call R w q.at))
       (cond (q.kind == 3) (drop_call R w q.at)
@@ -64,7 +73,7 @@ module _ {S L : Type 0} (R : Behaviour S L) where
   -- ---- recount, into the states
   abbrev pub recounting : (values book : List ℕ) → List S → (scratch row round : ℕ) → Result ℕ Refusal × List S
   recounting values book states scratch row round =
-      attempt states (run_refusal R.most (length values) (min (min (length states) scratch) row) (nat_lt 4095 round)) round
+      attempt states (run_refusal R.most (length values) (min (min (length states) scratch) row) (nat_lt LAST_ROUND round)) round
       (recounted R values book round states)
 
   -- ---- what is seen of the state in a cell; 0 where there is no such cell
@@ -89,22 +98,22 @@ module _ {S L : Type 0} (R : Behaviour S L) where
       (cond (q.kind == 11) (Ok (letter_number (slice_get w.letters q.at)), w)
       (Ok 0, record w { pool = slice_set w.pool q.at q.word })))))
 
-  -- the part of each buffer that a request is lent
+  -- with the first cells of each buffer alone, as many as a request is lent
   abbrev pub lent : World S L → Request → World S L
   lent w q = record w {
-    states = take (min q.states (length w.states)) w.states;
-    letters = take (min q.letters (length w.letters)) w.letters;
-    pool = take (min q.pool (length w.pool)) w.pool;
-    book = take (min q.book (length w.book)) w.book;
+    states = front q.states w.states;
+    letters = front q.letters w.letters;
+    pool = front q.pool w.pool;
+    book = front q.book w.book;
   }
 
-  -- what it leaves, and the cells after that part as they were
+  -- what it leaves of them, and the cells after those as they were
   abbrev pub returned : World S L → Request → World S L → World S L
   returned w q v = record v {
-    states = v.states ++ drop (min q.states (length w.states)) w.states;
-    letters = v.letters ++ drop (min q.letters (length w.letters)) w.letters;
-    pool = v.pool ++ drop (min q.pool (length w.pool)) w.pool;
-    book = v.book ++ drop (min q.book (length w.book)) w.book;
+    states = v.states ++ rest q.states w.states;
+    letters = v.letters ++ rest q.letters w.letters;
+    pool = v.pool ++ rest q.pool w.pool;
+    book = v.book ++ rest q.book w.book;
   }
 
   module _ (values : List ℕ) where

@@ -38,8 +38,9 @@ pub struct Request {
     pub book: usize,
 }
 
-// A refusal's number and 0, or 0 and the answer. A fate is told by its place among the four, a letter by its packed number, and a
-// hull or letter by one more than its number, so that 0 is none. What is seen of a station is one number: hull, round and stand.
+// A refusal's number and 0, or 0 and the answer. An answer that is no number is told by one: a fate by its place among late,
+// again, taken and early; a hull or a packed letter by one more than its number, and none by 0; and what look shows by its
+// hull, times 65,536, and its round, times 3, and its stand, which is 0, 1 or 2.
 #[repr(C)]
 #[derive(Clone, Copy)]
 pub struct Reply {
