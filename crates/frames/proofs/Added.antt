@@ -9,4 +9,10 @@ put_part xs [] c k e h = rw e (take-append-drop c xs)
 put_part xs (y ∷ ys) c k e h =
     let within : c < length xs = omega arith in
     let more = put_part (set xs c y) ys (suc c) (length ys) refl (simp length-set (omega arith)) in
-    rw (e, drop-cons xs c y within, ← append_snoc (take c xs) y (ys ++ drop (length ys) (drop (suc c) xs)), ← take-suc-set xs c y within, ← drop-set-lt (suc c) xs c y (omega arith)) more
+    rw (
+      e,
+      drop-cons xs c y within,
+      ← append_snoc (take c xs) y (ys ++ drop (length ys) (drop (suc c) xs)),
+      ← take-suc-set xs c y within,
+      ← drop-set-lt (suc c) xs c y (omega arith),
+    ) more

@@ -6,6 +6,7 @@ use Rattle.std.specs.Option.{MatchOption, option_map, option_map_or}
 use Rattle.std.proofs.lemmas.Bool.{eq-eqb, ne_eqb, and_left, and_right, and_from, cases_Bool, cond-true, cond-false, cond_both}
 use Rattle.lists.proofs.Tables.{tabulate_same, tabulate_set, get_or_tabulate}
 use Rattle.stations.specs.declared.StationSet.{StationSet}
+use Rattle.stations.specs.declared.TheConstants.{STATIONS}
 use Rattle.stations.specs.Stations.{contains, none}
 use Rattle.frames.specs.Book.{station_in, round_in, senders_in, is_for, heard_set, book_heard, heard_sets, hears}
 
@@ -36,20 +37,21 @@ set_found None set ws p k e nobody = nobody ∙ rw (← set_first ws p k, ← e)
 set_found (Some w) set ws p k e named = named ∙ rw (← set_first ws p k, ← e)
 
 -- ---- all stations
-pub sets_named : (w : ℕ) (ws : List ℕ) (k : ℕ) → station_in w < 16 → round_in w ≡ k → heard_sets (w ∷ ws) k ≡ set (heard_sets ws k) (station_in w) (senders_in w)
+pub sets_named : (w : ℕ) (ws : List ℕ) (k : ℕ) → station_in w < STATIONS → round_in w ≡ k →
+    heard_sets (w ∷ ws) k ≡ set (heard_sets ws k) (station_in w) (senders_in w)
 sets_named w ws k within round =
-    sym (tabulate_set 16 (λ p. heard_set ws p k) (λ p. heard_set (w ∷ ws) p k) (station_in w) (senders_in w) within
+    sym (tabulate_set STATIONS (λ p. heard_set ws p k) (λ p. heard_set (w ∷ ws) p k) (station_in w) (senders_in w) within
     (set_named w ws (station_in w) k refl round) (λ p _ apart. other_station w ws p k (λ e. apart (sym e))))
 
 pub sets_passed : (w : ℕ) (ws : List ℕ) (k : ℕ) → (round_in w ≡ k → ⊥) → heard_sets (w ∷ ws) k ≡ heard_sets ws k
-sets_passed w ws k off = tabulate_same 16 (λ p. heard_set (w ∷ ws) p k) (λ p. heard_set ws p k) (λ p _. other_round w ws p k off)
+sets_passed w ws k off = tabulate_same STATIONS (λ p. heard_set (w ∷ ws) p k) (λ p. heard_set ws p k) (λ p _. other_round w ws p k off)
 
-pub sets_empty : (k : ℕ) → heard_sets [] k ≡ replicate 16 none
+pub sets_empty : (k : ℕ) → heard_sets [] k ≡ replicate STATIONS none
 sets_empty k = refl
 
 -- whom p hears by the sets is whom the book's words name
-pub sets_hear : (words : List ℕ) (k p q : ℕ) → p < 16 → hears (heard_sets words k) p q ≡ book_heard words p k q
-sets_hear words k p q l = ap (λ s. contains s q) (get_or_tabulate 16 (λ x. heard_set words x k) p none l)
+pub sets_hear : (words : List ℕ) (k p q : ℕ) → p < STATIONS → hears (heard_sets words k) p q ≡ book_heard words p k q
+sets_hear words k p q l = ap (λ s. contains s q) (get_or_tabulate STATIONS (λ x. heard_set words x k) p none l)
 
 -- ---- words that are read from the last on
 -- the last word that is left goes before those that are read

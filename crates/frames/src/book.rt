@@ -5,8 +5,8 @@ ghost use Rattle.frames.specs.Book.{packed_entry, station_in, round_in, senders_
 use crate::ROUNDS;
 use stations::{STATIONS, StationSet};
 
-// The word of a book entry: station 4 bits, round 12, heard set 16, then 32 zero bits.
-// None if the station or the round is too large for its bits. A word reads back as its entry.
+/// The word of a book entry: station 4 bits, round 12, heard set 16, then 32 zero bits.
+/// None if the station or the round is too large for its bits. A word reads back as its entry.
 pub fn pack_entry(station: usize, round: u16, heard: StationSet) -> Option<u64>
     ensures word { result ≡ packed_entry station round heard }
     ensures reads_back { EntryBack station round heard result }
@@ -39,8 +39,8 @@ pub(crate) fn senders_in(word: u64) -> StationSet
     StationSet::from_bits(((word >> 32) % (1 << STATIONS)) as u16)
 }
 
-// The station, the round and the heard set of a word. Every word is an entry: its low 32 bits are ignored, and without
-// them the entry packs again into the same word. A tuple, as a frame is read.
+/// The station, the round and the heard set of a word. Every word is an entry: its low 32 bits are ignored, and without
+/// them the entry packs again into the same word. A tuple, as a frame is read.
 pub fn read_entry(word: u64) -> (usize, u16, StationSet)
     ensures entry { result ≡ read_entry word }
     ensures packs_again { EntryAgain word result }
@@ -48,7 +48,7 @@ pub fn read_entry(word: u64) -> (usize, u16, StationSet)
     (station_in(word), round_in(word), senders_in(word))
 }
 
-// Whom the words name for a station and a round: the senders of the first word for both, or nobody.
+/// Whom the words name for a station and a round: the senders of the first word for both, or nobody.
 pub fn senders(words: &[u64], station: usize, round: u16) -> StationSet
     ensures { result ≡ heard_set words.now station round }
 {
@@ -59,8 +59,8 @@ pub fn senders(words: &[u64], station: usize, round: u16) -> StationSet
         .map_or(StationSet::empty(), senders_in)
 }
 
-// Whom the words name for each station in a round, in one pass. The words are read from the last to the first, so that
-// the first for a station stays. Who asks for one round needs no table; an `Index` answers for every round after one pass.
+/// Whom the words name for each station in a round, in one pass. The words are read from the last to the first, so that
+/// the first for a station stays. Who asks for one round needs no table; an `Index` answers for every round after one pass.
 pub fn heard_in_round(words: &[u64], round: u16) -> [StationSet; STATIONS]
     ensures { result ≡ heard_sets words.now round }
 {

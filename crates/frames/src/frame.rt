@@ -7,9 +7,9 @@ use crate::ROUNDS;
 use rules::Rule;
 use stations::STATIONS;
 
-// The word of a frame, most significant bits first: sender 4, receiver 4, round 12, packed letter 44.
-// None if the sender, the receiver or the round is too large for its bits. A word reads back as its frame among any
-// number of stations that has both, if the letter is within its ranges.
+/// The word of a frame, most significant bits first: sender 4, receiver 4, round 12, packed letter 44.
+/// None if the sender, the receiver or the round is too large for its bits. A word reads back as its frame among any
+/// number of stations that has both, if the letter is within its ranges.
 pub fn pack_frame<R: Rule>(
     rule: &R,
     sender: usize,
@@ -28,9 +28,9 @@ pub fn pack_frame<R: Rule>(
     Some(head * (1 << 44) + rule.pack(letter))
 }
 
-// The sender, the receiver, the round and the letter of a word among n stations, or none if it is not readable: it is
-// readable exactly when its sender and its receiver are below n and the rest unpacks. What is read packs again into the
-// same word. A tuple in an `Option`, so that what is read is told together or not at all.
+/// The sender, the receiver, the round and the letter of a word among n stations, or none if it is not readable: it is
+/// readable exactly when its sender and its receiver are below n and the rest unpacks. What is read packs again into the
+/// same word. A tuple in an `Option`, so that what is read is told together or not at all.
 #[tactic(auto, unfolding(crate::specs::Frame::read_frame))]
 pub fn read_frame<R: Rule>(rule: &R, n: usize, word: u64) -> Option<(usize, usize, u16, R::Letter)>
     ensures frame { result ≡ read_frame (R.Rule.behaviour rule.now) n word }

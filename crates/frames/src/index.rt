@@ -11,15 +11,15 @@ use std::array;
 // A word for each station in each round.
 const PLACES: usize = STATIONS * ROUNDS as usize;
 
-// The first word of a book for each station and round, at the place that its upper 16 bits name; 0 where there is none.
-// A fixed table, 512 KiB by value, and no map: recounting may want no memory from the heap.
+/// The first word of a book for each station and round, at the place that its upper 16 bits name; 0 where there is none.
+/// A fixed table, 512 KiB by value, and no map: recounting may want no memory from the heap.
 #[derive(Clone, Copy)]
 pub struct Index {
     words: [u64; PLACES],
 }
 
 impl Index {
-    // The words are read from the last to the first, so that the first for a place stays.
+    /// The words are read from the last to the first, so that the first for a place stays.
     pub fn of(book: &[u64]) -> Index
         ensures { Indexes result.words book.now }
     {
@@ -30,7 +30,7 @@ impl Index {
         Index { words }
     }
 
-    // Whom the words of the book name for each station in a round.
+    /// Whom the words of the book name for each station in a round.
     pub fn heard_in_round(&self, round: u16) -> [StationSet; STATIONS]
         ensures { (book : List ℕ) → Indexes self.now.words book → result ≡ heard_sets book round }
     {

@@ -8,5 +8,5 @@ pub mod frame;
 pub mod index;
 pub mod pool;
 
-// How many rounds the bits of a word tell apart: those up to the last round.
+/// How many rounds the bits of a word tell apart: those up to the last round.
 pub const ROUNDS: u16 = LAST_ROUND + 1;

@@ -6,14 +6,14 @@ ghost use Rattle.frames.specs.Pool.{has_place, found, taken_out, added, repeated
 use crate::frame::read_frame;
 use rules::Rule;
 
-// Why the pool refuses. Whatever it refuses leaves its words as they were.
+/// Why the pool refuses. Whatever it refuses leaves its words as they were.
 #[derive(Clone, Copy, Debug, PartialEq, Eq)]
 pub enum PoolRefusal {
-    // The place is not one of the frames'.
+    /// The place is not one of the frames'.
     NoSuchPlace,
-    // The word at the place is no frame of these stations and this rule.
+    /// The word at the place is no frame of these stations and this rule.
     Unreadable,
-    // There are fewer free places than frames to add.
+    /// There are fewer free places than frames to add.
     Full,
 }
 
@@ -28,7 +28,7 @@ fn check_place(pool: &[u64], count: usize, place: usize) -> Result<(), PoolRefus
     }
 }
 
-// The sender, the receiver, the round and the letter of the frame at a place, among n stations.
+/// The sender, the receiver, the round and the letter of the frame at a place, among n stations.
 pub fn frame_at<R: Rule>(
     rule: &R,
     n: usize,
@@ -43,8 +43,8 @@ pub fn frame_at<R: Rule>(
     read_frame(rule, n, pool[place]).ok_or(PoolRefusal::Unreadable)
 }
 
-// Takes the frame at a place out of the first `count`: the last of them moves there, and 0 takes its place. Answers how
-// many are left.
+/// Takes the frame at a place out of the first `count`: the last of them moves there, and 0 takes its place. Answers how
+/// many are left.
 #[tactic(auto, unfolding(crate::specs::Pool::take_out))]
 pub fn take_out(pool: &mut [u64], count: usize, place: usize) -> Result<usize, PoolRefusal>
     ensures answer { result ≡ (taken_out pool.old count place).0 }
@@ -57,7 +57,7 @@ pub fn take_out(pool: &mut [u64], count: usize, place: usize) -> Result<usize, P
     Ok(last)
 }
 
-// Frames join the first `count` at their end, all or none. Answers how many there are then.
+/// Frames join the first `count` at their end, all or none. Answers how many there are then.
 #[tactic(auto, using(crate::proofs::Added::put_part))]
 pub fn add(pool: &mut [u64], count: usize, words: &[u64]) -> Result<usize, PoolRefusal>
     ensures answer { result ≡ (added pool.old count words.now).0 }
@@ -70,7 +70,7 @@ pub fn add(pool: &mut [u64], count: usize, words: &[u64]) -> Result<usize, PoolR
     Ok(count + words.len())
 }
 
-// A copy of the frame at a place joins the first `count` at their end. Answers the copy's place.
+/// A copy of the frame at a place joins the first `count` at their end. Answers the copy's place.
 pub fn repeat(pool: &mut [u64], count: usize, place: usize) -> Result<usize, PoolRefusal>
     ensures answer { result ≡ (repeated pool.old count place).0 }
     ensures words { pool.new ≡ (repeated pool.old count place).1 }
@@ -83,7 +83,7 @@ pub fn repeat(pool: &mut [u64], count: usize, place: usize) -> Result<usize, Poo
     Ok(count)
 }
 
-// Writes 0 to every word.
+/// Writes 0 to every word.
 pub fn clear(words: &mut [u64])
     ensures { words.new ≡ replicate (length words.old) 0 }
 {

@@ -2,6 +2,7 @@
 use Rattle.std.proofs.Common.{◌≡◌, ℕ, suc, ◌+◌, ◌<◌, ◌≤◌, List, ◌++◌, length, get_or, take, drop, sym, refl, ap, ◌∙◌, add-one, arith}
 use Rattle.lists.specs.Lists.{tabulate, written, put}
 use Rattle.stations.specs.declared.StationSet.{StationSet}
+use Rattle.stations.specs.declared.TheConstants.{STATIONS}
 use Rattle.rules.specs.Rule.{Behaviour, next_state, lockstep}
 use Rattle.rules.proofs.Runs.{next_same}
 use Rattle.lists.proofs.Tables.{tabulate_same, put_table, take_written, get_or_written, drop_written}
@@ -19,7 +20,8 @@ advances R n k sets states before after e values H count heard state =
     tabulate_same n _ _ (λ p h.
     let one : state_after R n k sets states p ≡ next_state R n p k (H p k) (lockstep R values H k) =
     next_same R n p k (hears sets p) (H p k) (state_in R n states) (lockstep R values H k) (state p h) (λ q l. heard p q h l) (λ q l _. state q l) in
-    let def : lockstep R values H (suc k) p ≡ next_state R n p k (H p k) (lockstep R values H k) = ap (λ m. next_state R m p k (H p k) (lockstep R values H k)) count in
+    let def : lockstep R values H (suc k) p ≡ next_state R n p k (H p k) (lockstep R values H k) =
+    ap (λ m. next_state R m p k (H p k) (lockstep R values H k)) count in
     one ∙ sym def) in
     e ∙ ap (λ xs. xs ++ drop n before) same
 
@@ -40,7 +42,7 @@ module _ {S L : Type 0} (R : Behaviour S L) (values book : List ℕ) where
 
   -- one round more
   pub run_more :
-      (k : ℕ) (sets : List StationSet) (cells states scratch next front : List S) → n ≤ 16 →
+      (k : ℕ) (sets : List StationSet) (cells states scratch next front : List S) → n ≤ STATIONS →
       states ≡ recounted R values book k cells → sets ≡ heard_sets book k →
       next ≡ written n (state_after R n k sets states) scratch → front ≡ take n next →
       front ++ drop n states ≡ recounted R values book (k + 1) cells

@@ -2,6 +2,7 @@
 use Rattle.std.specs.Prelude.{◌≡◌, ℕ, suc, ◌+◌, ◌<◌, min, Bool, ◌||◌, List, [], ◌∷◌, length, Option, Result, ◌==◌, nat_le, nat_lt, slice_index_or}
 use Rattle.lists.specs.Lists.{written}
 use Rattle.stations.specs.declared.StationSet.{StationSet}
+use Rattle.rules.specs.declared.TheConstants.{LAST_ROUND}
 use Rattle.rules.specs.Rule.{Behaviour, Heard, letter_heard, next_state, lockstep}
 use Rattle.frames.specs.Book.{book_heard, hears}
 use Rattle.protocol.specs.declared.refusal.Refusal.{Refusal}
@@ -32,7 +33,7 @@ module _ {S L : Type 0} (R : Behaviour S L) (n : ℕ) where
   -- what a round answers, and what it leaves in the cells for the states after it: the first n are written
   abbrev pub round_call : ℕ → List StationSet → List S → List S → Result ℕ Refusal × List S
   round_call k sets states cells =
-      attempt cells (run_refusal R.most n (min (length states) (length cells)) (nat_le 4095 k)) (k + 1)
+      attempt cells (run_refusal R.most n (min (length states) (length cells)) (nat_le LAST_ROUND k)) (k + 1)
       (written n (state_after k sets states) cells)
 
   -- from the lockstep run at round k to the run at the round after it
@@ -49,17 +50,17 @@ abbrev pub recounted : {S L : Type 0} → Behaviour S L → List ℕ → List �
 recounted R values book round cells = written (length values) (lockstep R values (book_heard book) round) cells
 
 -- the two state buffers and the letter row
-pub record Buffers (S L : Type 0) : Type 0 where
+pub record RecountBuffers (S L : Type 0) : Type 0 where
   pub states : List S
   pub scratch : List S
   pub row : List L
 
 -- the length of the shortest of them
-abbrev pub shortest : {S L : Type 0} → Buffers S L → ℕ
+abbrev pub shortest : {S L : Type 0} → RecountBuffers S L → ℕ
 shortest b = min (min (length b.states) (length b.scratch)) (length b.row)
 
 -- what recount answers, and what it leaves in the first buffer
-abbrev pub recount_call : {S L : Type 0} → Behaviour S L → List ℕ → List ℕ → ℕ → Buffers S L → Result ℕ Refusal × List S
+abbrev pub recount_call : {S L : Type 0} → Behaviour S L → List ℕ → List ℕ → ℕ → RecountBuffers S L → Result ℕ Refusal × List S
 recount_call R values book round b =
-    attempt b.states (run_refusal R.most (length values) (shortest b) (nat_lt 4095 round)) round
+    attempt b.states (run_refusal R.most (length values) (shortest b) (nat_lt LAST_ROUND round)) round
     (recounted R values book round b.states)

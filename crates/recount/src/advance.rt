@@ -8,7 +8,7 @@ use rules::Rule;
 use stations::{STATIONS, StationSet};
 use std::array;
 
-// A round of n stations: whom each of them hears in it, and all states before it.
+/// A round of n stations: whom each of them hears in it, and all states before it.
 #[derive(Drop)]
 pub struct LockstepRound<'a, R: Rule> {
     pub rule: &'a R,
@@ -20,13 +20,12 @@ pub struct LockstepRound<'a, R: Rule> {
     ghost there: { n ≤ length states.now },
 }
 
-// A round and one of its stations are no struct, which each station would make anew: what follows asks for a station below
-// n.
 impl<'a, R: Rule> LockstepRound<'a, R> {
     // The letter that the receiver hears from a sender, or none.
     fn letter(&self, sender: usize, receiver: usize) -> Option<R::Letter>
         requires { receiver < self.now.n }
-        ensures { result ≡ (if nat_lt sender self.now.n then letter_in (R.Rule.behaviour self.now.rule.now) self.now.n self.now.round self.now.heard.now self.now.states.now receiver sender else None) }
+        ensures { result ≡ (if nat_lt sender self.now.n then letter_in
+            (R.Rule.behaviour self.now.rule.now) self.now.n self.now.round self.now.heard.now self.now.states.now receiver sender else None) }
     {
         if sender < self.n && self.heard[receiver].contains(sender) {
             self.rule
@@ -36,11 +35,11 @@ impl<'a, R: Rule> LockstepRound<'a, R> {
         }
     }
 
-    // The letters that the receiver hears, in the first n places of an array, which asks for no memory. The shed
-    // has one line like it; a function of both would say more than each.
+    // The letters that the receiver hears, in the first n places of an array, which asks for no memory.
     fn mailbox(&self, receiver: usize) -> [Option<R::Letter>; STATIONS]
         requires { receiver < self.now.n }
-        ensures places { take self.now.n result ≡ tabulate self.now.n (letter_in (R.Rule.behaviour self.now.rule.now) self.now.n self.now.round self.now.heard.now self.now.states.now receiver) }
+        ensures places { take self.now.n result ≡ tabulate self.now.n
+            (letter_in (R.Rule.behaviour self.now.rule.now) self.now.n self.now.round self.now.heard.now self.now.states.now receiver) }
         ensures len { length result ≡ STATIONS }
     {
         array::from_fn(|sender| self.letter(sender, receiver))
@@ -56,10 +55,11 @@ impl<'a, R: Rule> LockstepRound<'a, R> {
         self.rule.next(self.n, station, self.round, &self.states[station], letters)
     }
 
-    // Writes the states of all n stations after the round.
+    /// Writes the states of all n stations after the round.
     pub fn advance(&self, next: &mut [R::State])
         requires { self.now.n ≤ length next.old }
-        ensures { next.new ≡ written self.now.n (state_after (R.Rule.behaviour self.now.rule.now) self.now.n self.now.round self.now.heard.now self.now.states.now) next.old }
+        ensures { next.new ≡ written self.now.n (state_after
+            (R.Rule.behaviour self.now.rule.now) self.now.n self.now.round self.now.heard.now self.now.states.now) next.old }
     {
         for (station, cell) in next[..self.n].iter_mut().enumerate() {
             *cell = self.next(station);

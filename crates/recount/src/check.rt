@@ -5,10 +5,11 @@ ghost use Rattle.recount.specs.Recount.{run_refusal};
 use protocol::refusal::Refusal;
 use rules::Rule;
 
-// Whether a run of n stations goes ahead, by the length of the shortest buffer, and unless the round is too late. Each
-// caller tells by a flag what is too late for it, so that the refusals stand in one place in their order.
+/// Whether a run of n stations goes ahead, in this order: there are some and no more than the rule's most; the shortest buffer
+/// has a cell for each; the round is not too late, which each caller tells, as they differ in which is the last.
 pub fn check<R: Rule>(rule: &R, n: usize, shortest: usize, late: bool) -> Result<(), Refusal>
-    ensures { MatchResult result (λ _. run_refusal (R.Rule.behaviour rule.now).most n shortest late ≡ None) (λ f. run_refusal (R.Rule.behaviour rule.now).most n shortest late ≡ Some f) }
+    ensures { MatchResult result (λ _. run_refusal (R.Rule.behaviour rule.now).most n shortest late ≡ None)
+        (λ f. run_refusal (R.Rule.behaviour rule.now).most n shortest late ≡ Some f) }
 {
     if n == 0 || n > R::MAX_STATIONS {
         return Err(Refusal::ValueCount);

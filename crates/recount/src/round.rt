@@ -8,10 +8,10 @@ use protocol::refusal::Refusal;
 use rules::{LAST_ROUND, Rule};
 use stations::{STATIONS, StationSet};
 
-// Leaves the states of all n stations after the round in the first n cells of `next`, from those before it in the first
-// n of `states` and from whom each station heard, and answers the round after it. If the states are those of a lockstep
-// run at the round, the new ones are those of the run at the round after it. The other cells are as they were. Refused,
-// nothing is written: for the number of stations, then for a buffer with fewer cells, then in the last round.
+/// Leaves the states of all n stations after the round in the first n cells of `next`, from those before it in the first
+/// n of `states` and from whom each station heard, and answers the round after it. If the states are those of a lockstep
+/// run at the round, the new ones are those of the run at the round after it. The other cells are as they were. Refused,
+/// nothing is written: for the number of stations, then for a buffer with fewer cells, then in the last round.
 pub fn lockstep_round<R: Rule>(
     rule: &R,
     n: usize,

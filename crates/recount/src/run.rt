@@ -1,12 +1,13 @@
 // The lockstep run up to a round, by the words of a book.
 ghost use Rattle.std.specs.Prelude.{◌≡◌, ◌≤◌, ◌++◌, length, take, drop};
+ghost use Rattle.stations.specs.declared.TheConstants.{STATIONS};
 ghost use Rattle.recount.specs.Recount.{recounted};
 
 use crate::advance::LockstepRound;
 use frames::index::Index;
 use rules::{Rule, first_states};
 
-// Leaves the lockstep run at the round in the first cells of `states`.
+/// Leaves the lockstep run at the round in the first cells of `states`.
 pub fn run_rounds<R: Rule>(
     rule: &R,
     values: &[u16],
@@ -15,7 +16,7 @@ pub fn run_rounds<R: Rule>(
     states: &mut [R::State],
     scratch: &mut [R::State],
 )
-    requires { (length values.now ≤ 16) × ((length values.now ≤ length states.old) × (length values.now ≤ length scratch.old)) }
+    requires { (length values.now ≤ STATIONS) × ((length values.now ≤ length states.old) × (length values.now ≤ length scratch.old)) }
     ensures { states.new ≡ recounted (R.Rule.behaviour rule.now) values.now book.now round states.old }
 {
     let n = values.len();

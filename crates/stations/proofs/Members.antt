@@ -1,10 +1,12 @@
 -- Who is in a set of stations that has one more, or is made by a test; that its members make it up; and how many they are.
-use Rattle.std.proofs.Common.{◌≡◌, ℕ, zero, suc, ◌+◌, ◌-◌, ◌*◌, ◌/◌, ◌%◌, ◌^◌, ◌<◌, ◌≤◌, max, Bool, true, false, cond, ◌&&◌, ◌||◌, eqb, ltb, sym, refl, ap, ◌∙◌, inl, inr, arith}
+use Rattle.std.proofs.Common.{◌≡◌, ℕ, zero, suc, ◌+◌, ◌-◌, ◌*◌, ◌/◌, ◌%◌, ◌^◌, ◌<◌, ◌≤◌, max, Bool, true, false, cond, ◌&&◌, ◌||◌, eqb, ltb, sym}
+use Rattle.std.proofs.Common.{refl, ap, ◌∙◌, inl, inr, arith}
 use Rattle.std.specs.Int.{bit_at}
 use Rattle.std.specs.Int.RustNames.{bit_or}
 use Rattle.std.specs.Int.Count.{ones}
 use Rattle.std.proofs.lemmas.Nat.{pow_pos, pow_below, shr_split, mod_below, div_below, or_lt, ones_cat}
-use Rattle.std.proofs.lemmas.Nat.Bits.{bit_at-zero, bit_at-lt, bit_at_or, bit_at-pow_same, bit_at-pow_other, same_from_bits_below, bit_at_cat_low, bit_at_cat_high}
+use Rattle.std.proofs.lemmas.Nat.Bits.{bit_at-zero, bit_at-lt, bit_at_or, bit_at-pow_same, bit_at-pow_other, same_from_bits_below, bit_at_cat_low}
+use Rattle.std.proofs.lemmas.Nat.Bits.{bit_at_cat_high}
 use Rattle.std.proofs.Math.Bool.{or-false}
 use Rattle.std.proofs.lemmas.Bool.{lt-ltb, le-ltb, cases_lt, cases_eq, eq-eqb, ne_eqb, or_right, and_from, and_left}
 use Rattle.lists.proofs.Counting.{count, count_by_tabulate}
@@ -49,7 +51,8 @@ module _ (s : StationSet) (p : ℕ) (h : p < 16) where
   contains_old q apart = rw more_bits (elim (cases_lt q 16) [
     | inl l ↦
         contains_at (record { bits = bit_or s.bits (2 ^ (15 - p)) }) q l
-        ∙ ap (λ b. eqb b 1) (bit_at_or s.bits (2 ^ (15 - p)) (15 - q) ∙ ap (max (bit_at s.bits (15 - q))) (bit_at-pow_other (15 - p) (15 - q) (λ e. apart (omega arith))) ∙ max_zero (bit_at s.bits (15 - q)))
+        ∙ ap (λ b. eqb b 1) (bit_at_or s.bits (2 ^ (15 - p)) (15 - q)
+        ∙ ap (max (bit_at s.bits (15 - q))) (bit_at-pow_other (15 - p) (15 - q) (λ e. apart (omega arith))) ∙ max_zero (bit_at s.bits (15 - q)))
         ∙ sym (contains_at s q l)
     | inr g ↦ contains_past (record { bits = bit_or s.bits (2 ^ (15 - p)) }) q g ∙ sym (contains_past s q g)
   ])
@@ -126,9 +129,12 @@ counted (suc n) b f h is =
     let whole : b ≡ a * 2 ^ n + r = sym (shr_split b n) in
     let small : r < 2 ^ n = mod_below b (2 ^ n) (pow_pos n) in
     let two : a < 2 = div_below b (2 ^ n) 2 (pow_pos n) (omega arith) in
-    let rest : ones r ≡ count n (λ q. f (suc q)) = counted n r (λ q. f (suc q)) small (λ q j e. is (suc q) j (omega arith) ∙ ap (λ x. eqb x 1) (ap (λ x. bit_at x j) whole ∙ bit_at_cat_low a n r j (omega arith))) in
+    let rest : ones r ≡ count n (λ q. f (suc q)) =
+    counted n r (λ q. f (suc q)) small (λ q j e. is (suc q) j (omega arith)
+    ∙ ap (λ x. eqb x 1) (ap (λ x. bit_at x j) whole ∙ bit_at_cat_low a n r j (omega arith))) in
     let none : n - n ≡ 0 = omega arith in
-    let top : f 0 ≡ eqb (bit_at a 0) 1 = is 0 n (omega arith) ∙ ap (λ x. eqb x 1) (ap (λ x. bit_at x n) whole ∙ bit_at_cat_high a n r n small (omega arith) ∙ ap (bit_at a) none) in
+    let top : f 0 ≡ eqb (bit_at a 0) 1 = is 0 n (omega arith)
+    ∙ ap (λ x. eqb x 1) (ap (λ x. bit_at x n) whole ∙ bit_at_cat_high a n r n small (omega arith) ∙ ap (bit_at a) none) in
     ap ones whole ∙ ones_cat n a r small ∙ rw (rest, top, ones_below_two a two)
 
 pub size_bits : (s : StationSet) → Within s → size s ≡ ones s.bits

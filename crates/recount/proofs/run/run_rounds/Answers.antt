@@ -3,7 +3,8 @@ use Rattle.recount.proofs.run.run_rounds.Goals as goal
 
 pub loop-k-init : goal.loop-k-init
 loop-k-init g c =
-    run_none (g.R.Rule.behaviour c.args.rule.now) c.args.values.now c.args.book.now c.args.states.now c.first_states.new.states c.requires.1.0 c.first_states.ensures
+    run_none (g.R.Rule.behaviour c.args.rule.now) c.args.values.now c.args.book.now c.args.states.now
+    c.first_states.new.states c.requires.1.0 c.first_states.ensures
 
 pub loop-k-preserved : goal.loop-k-preserved
 loop-k-preserved g c =

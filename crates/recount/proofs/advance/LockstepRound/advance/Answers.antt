@@ -7,4 +7,5 @@ pub loop-station-preserved : goal.loop-station-preserved
 loop-station-preserved g c =
     let all = c.args.self.now in
     let f = state_after (g.R.Rule.behaviour all.rule.now) all.n all.round all.heard.now all.states.now in
-    written_more c.loop-station.station f (take all.n c.args.next.now) c.loop-station.cell-items c.next.result c.loop-station.invariant c.loop-station-test.true c.next.ensures
+    written_more c.loop-station.station f
+    (take all.n c.args.next.now) c.loop-station.cell-items c.next.result c.loop-station.invariant c.loop-station-test.true c.next.ensures
