@@ -25,7 +25,7 @@ HISTORY = {"PORT.md", "DESIGN-PASS.md"}
 # What a build, or whoever follows a page, makes.
 MADE = ("crates/my_program", "crates/shed/out", "crates/peer_bridge/out", "target/")
 # Names of the kit, of Rust and of the pages' own examples that stand in no file of ours.
-ELSEWHERE = set("dyn split_inclusive iter_mut from_utf8 TryFrom FromStr my_program".split())
+ELSEWHERE = set("dyn Display split_inclusive iter_mut from_utf8 TryFrom FromStr my_program".split())
 
 said = []
 
