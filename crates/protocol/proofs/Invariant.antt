@@ -4,6 +4,7 @@ use Rattle.std.proofs.Common.{None, Option, sym, ◌∙◌, arith}
 use Rattle.std.specs.Result.{result_err}
 use Rattle.std.specs.List.{slice_get}
 use Rattle.std.proofs.lemmas.Bool.{or_parts, ltb-false, eqb-true, not-false}
+use Rattle.rules.specs.declared.TheConstants.{LAST_ROUND}
 use Rattle.stations.specs.Stations.{contains, Within}
 use Rattle.rules.specs.Rule.{Behaviour, Heard, lockstep}
 use Rattle.frames.specs.Frame.{frame_word}
@@ -58,7 +59,7 @@ module _ {S L : Type 0} (R : Behaviour S L) (values : List ℕ) where
 
   pub record Seat (H : Heard) (rounds : ℕ → ℕ) (notes : ℕ → ℕ → Bool) (s : StationRecord) (x : S) (n : ℕ) (letters : List L) (p : ℕ) : Type 0 where
     pub round : s.round ≡ rounds p
-    pub limit : rounds p ≤ 4095
+    pub limit : rounds p ≤ LAST_ROUND
     pub state : x ≡ lockstep R values H (rounds p) p
     pub live : is_down s.stand ≡ false → Live H rounds notes s n letters p
 

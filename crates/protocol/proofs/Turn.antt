@@ -7,6 +7,7 @@ use Rattle.std.proofs.lemmas.List.{length-set, length_push, length-map, length-a
 use Rattle.std.proofs.lemmas.List.{map_push, append_assoc}
 use Rattle.std.proofs.lemmas.Bool.{cases_eq, cases_Bool, leb-false, eqb-true, eqb-false, eq-eqb, ne_eqb, true≢false, false≢true, cond_both, cond-true}
 use Rattle.std.proofs.lemmas.Bool.{cond-false, and_parts, and_left, and_right}
+use Rattle.rules.specs.declared.TheConstants.{LAST_ROUND}
 use Rattle.lists.specs.Lists.{tabulate}
 use Rattle.stations.specs.Stations.{contains, none, set_of, Within}
 use Rattle.stations.proofs.Members.{within_set, contains_none, contains_set, same_members}
@@ -53,7 +54,7 @@ over_more : (rounds rounds' : ℕ → ℕ) (ts : List Triple) (u : Triple) → (
 over_more rounds rounds' [] u g h o = (h, tt)
 over_more rounds rounds' (t ∷ ts) u g h o = (omega (arith, o.0, g t.station), over_more rounds rounds' ts u g h o.1)
 
-whole_more : (ts : List Triple) (u : Triple) → u.round ≤ 4095 → Within u.heard → Whole ts → Whole (ts ++ (u ∷ []))
+whole_more : (ts : List Triple) (u : Triple) → u.round ≤ LAST_ROUND → Within u.heard → Whole ts → Whole (ts ++ (u ∷ []))
 whole_more [] u h l o = (h, l, tt)
 whole_more (t ∷ ts) u h l o = (o.0, o.1, whole_more ts u h l o.2)
 
@@ -184,13 +185,13 @@ module _ {S L : Type 0} (R : Behaviour S L) (values : List ℕ) (B : ℕ) (w : W
   then = record s { round = s.round + 1; stand = Fresh; heard = none }
 
   seat_then :
-      eqb s.round 4095 ≡ false → (x : S) → x ≡ R.next w.n p s.round (state_of R w p) (mailbox_of R w p) →
+      eqb s.round LAST_ROUND ≡ false → (x : S) → x ≡ R.next w.n p s.round (state_of R w p) (mailbox_of R w p) →
       Seat R values Hn (moved t.rounds p) (t.notes p) then x w.n w.letters p
   seat_then more_left x e =
       let more : moved t.rounds p p ≡ rd + 1 = moved_here t.rounds p in
       record {
         round = rw more (omega (arith, at.round));
-        limit = rw more (omega (arith, at.limit, at.round, eqb-false s.round 4095 more_left));
+        limit = rw more (omega (arith, at.limit, at.round, eqb-false s.round LAST_ROUND more_left));
         state = e ∙ next_is;
         live = λ _. record {
           within = omega arith;
@@ -206,7 +207,8 @@ module _ {S L : Type 0} (R : Behaviour S L) (values : List ℕ) (B : ℕ) (w : W
         };
       }
 
-  turned_well : Matched R w → eqb w.entries w.book_len ≡ false → eqb s.round 4095 ≡ false → Inv R values B (turned R w p) (tally_accepted R values t (Turn p))
+  turned_well : Matched R w → eqb w.entries w.book_len ≡ false → eqb s.round LAST_ROUND ≡ false →
+      Inv R values B (turned R w p) (tally_accepted R values t (Turn p))
   unfolding tally_accepted
   turned_well m full more_left =
       let n_is = i.n_is in

@@ -1,5 +1,6 @@
 -- The book's words name the senders that its triples name.
 use Rattle.std.proofs.Common.{◌≡◌, ℕ, ◌≤◌, Bool, true, false, cond, ◌&&◌, eqb, List, [], ◌∷◌, ◌++◌, map, replicate, refl, ap, ◌∙◌}
+use Rattle.rules.specs.declared.TheConstants.{LAST_ROUND}
 use Rattle.stations.specs.declared.StationSet.{StationSet}
 use Rattle.stations.specs.Stations.{contains, Within}
 use Rattle.stations.proofs.Members.{contains_none}
@@ -12,7 +13,7 @@ use Rattle.protocol.specs.Guarantee.{entry}
 -- each triple is for a round up to the last, and no bit of its set is for no station
 abbrev pub Whole : List Triple → Type 0
 Whole [] = Unit {0}
-Whole (t ∷ ts) = (t.round ≤ 4095) × Within t.heard × Whole ts
+Whole (t ∷ ts) = (t.round ≤ LAST_ROUND) × Within t.heard × Whole ts
 
 of_either : (b : Bool) (s s' : StationSet) (r : Bool) (q : ℕ) → contains s' q ≡ r → contains (cond b s s') q ≡ cond b (contains s q) r
 of_either true s s' r q e = refl

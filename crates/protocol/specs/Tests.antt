@@ -1,5 +1,6 @@
 -- What the calls ask for before they act, in parts that they share, each in checking order.
 use Rattle.std.specs.Prelude.{ℕ, Bool, not, ◌||◌, List, [], ◌∷◌, ◌++◌, length, ◌==◌, nat_le, nat_lt}
+use Rattle.rules.specs.declared.TheConstants.{LAST_ROUND}
 use Rattle.protocol.specs.declared.types.StationRecord.{StationRecord}
 use Rattle.protocol.specs.declared.refusal.Refusal.{Refusal}
 use Rattle.protocol.specs.declared.refusal.Refusal.TheVariants.{Shut, BufferMismatch, NoSuchStation, NoSuchPlace, StationDown, AlreadySent}
@@ -36,4 +37,4 @@ speaker_tests n p s = standing_tests n p s ++ (is_listening s.stand, AlreadySent
 -- station p, which may turn, where the book has so many entries of so many words
 abbrev pub turner_tests : (n p : ℕ) → StationRecord → (entries book_len : ℕ) → List (Bool × Refusal)
 turner_tests n p s entries book_len =
-    standing_tests n p s ++ (is_fresh s.stand, NotListening) ∷ ((entries == book_len), BookFull) ∷ ((s.round == 4095), LastRound) ∷ []
+    standing_tests n p s ++ (is_fresh s.stand, NotListening) ∷ ((entries == book_len), BookFull) ∷ ((s.round == LAST_ROUND), LastRound) ∷ []

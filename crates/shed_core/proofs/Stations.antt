@@ -1,6 +1,7 @@
 -- The records of a shed stay sound when one of them changes.
 use Rattle.std.proofs.Common.{◌≡◌, ◌∙◌, ℕ, zero, suc, ◌+◌, ◌<◌, ◌≤◌, refl, List, [], ◌∷◌, get_or, set, replicate, sym, subst, inl, inr, arith}
 use Rattle.std.proofs.lemmas.Bool.{cases_eq, false≢true}
+use Rattle.rules.specs.declared.TheConstants.{LAST_ROUND}
 use Rattle.lists.proofs.Tables.{get_or_replicate_all}
 use Rattle.lists.proofs.Options.{none_some, same_some}
 use Rattle.stations.specs.Stations.{none}
@@ -33,7 +34,7 @@ module _ (n p : ℕ) (there : p < n) (s : StationRecord) (old : Sound n p s) whe
     past = λ l. absurd (omega arith);
   }
 
-  pub holding_sound : (h : Held) → h.sender < n → h.round ≤ 4095 → Sound n p (holding s h)
+  pub holding_sound : (h : Held) → h.sender < n → h.round ≤ LAST_ROUND → Sound n p (holding s h)
   holding_sound h sender round = record {
     round = old.round;
     heard = old.heard;
@@ -51,7 +52,7 @@ module _ (n p : ℕ) (there : p < n) (s : StationRecord) (old : Sound n p s) whe
     past = λ l. absurd (omega arith);
   }
 
-  pub turned_sound : (s.round ≡ 4095 → ⊥) → Sound n p (record s { round = s.round + 1; stand = Fresh; heard = none })
+  pub turned_sound : (s.round ≡ LAST_ROUND → ⊥) → Sound n p (record s { round = s.round + 1; stand = Fresh; heard = none })
   turned_sound more = record {
     round = omega (arith, old.round);
     heard = λ q e. absurd (false≢true (sym (contains_none q) ∙ e));

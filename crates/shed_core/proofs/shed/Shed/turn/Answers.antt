@@ -1,5 +1,6 @@
 use Rattle.std.proofs.Common.{◌+◌, arith}
 use Rattle.std.proofs.lemmas.Bool.{leb-false, eqb-false}
+use Rattle.rules.specs.declared.TheConstants.{LAST_ROUND}
 use Rattle.stations.specs.Stations.{none}
 use Rattle.protocol.specs.declared.types.Stand.TheVariants.{Fresh}
 use Rattle.protocol.specs.World.{station}
@@ -40,4 +41,4 @@ invariant_of-self-clause-sound g c =
     let fails = none_holds (turner_tests n p old s.entries s.book_len) c.in_ok-station.ensures.0 in
     changed_sound n p s.table.records _ (record old { round = old.round + 1; stand = Fresh; heard = none })
     (rw (known, c.empty-station.ensures.set) at c.change.ensures) s.sound
-    (turned_sound n p (leb-false n p (fails 0)) old (s.sound p) (eqb-false old.round 4095 (fails 4)))
+    (turned_sound n p (leb-false n p (fails 0)) old (s.sound p) (eqb-false old.round LAST_ROUND (fails 4)))
