@@ -1,8 +1,8 @@
-use Rattle.std.proofs.Common.{◌≡◌, ℕ, length, get_or, None, refl, ap, ◌∙◌}
+use Rattle.std.proofs.Common.{◌≡◌, ℕ, ◌≤◌, length, get_or, None, refl, ap, ◌∙◌, arith}
+use Rattle.std.proofs.lemmas.Bool.Decides.{nat_tests}
 use Rattle.std.proofs.lemmas.List.{length-replicate}
 use Rattle.lists.proofs.Tables.{put_table}
 use Rattle.protocol.specs.Calls.{open_refusal, opened}
-use Rattle.protocol.proofs.Start.{opens}
 use Rattle.shed_core.proofs.Stations.{blanks_sound}
 use Rattle.shed_core.proofs.Worlds.{same_world, accepted}
 use Rattle.shed_core.specs.Of.{world_of}
@@ -15,12 +15,12 @@ returns-clause-call g c =
     let b = c.args.buffers.now in
     let w = world_of c.args.self.now b in
     let none : open_refusal R w values ≡ None = c.in_ok-openable.ensures in
-    let fine = opens R (g.met.R.Rule.interface c.args.rule.now) w values none in
+    let enough : length values ≤ length b.states.now = grind (arith, nat_tests, none) in
     let first : ℕ → _ = λ (p : ℕ). R.first (length values) p (get_or values p 0) in
     accepted w (opened R w values) _ (length values) (open_refusal R w values) none
     (same_world refl (ap length c.clear.ensures ∙ length-replicate (length b.pool.now) 0)
     (ap length c.clear-2.ensures ∙ length-replicate (length b.book.now) 0) refl refl
-    c.new.ensures (c.first_states.ensures ∙ put_table (length values) first b.states.now fine.states) refl c.clear.ensures c.clear-2.ensures)
+    c.new.ensures (c.first_states.ensures ∙ put_table (length values) first b.states.now enough) refl c.clear.ensures c.clear-2.ensures)
 
 pub invariant_of-self-clause-sound : goal.invariant_of-self-clause-sound
 invariant_of-self-clause-sound g c = blanks_sound (length c.args.values.now) c.new.result.records c.new.ensures
