@@ -1,4 +1,4 @@
-// A new shed is opened and takes a list of steps.
+//! A new shed is opened and takes a list of steps.
 #![tactic(auto)]
 
 ghost use Rattle.std.specs.Prelude.{◌≡◌};

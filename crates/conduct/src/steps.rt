@@ -1,4 +1,4 @@
-// Steps, one by one and as a list.
+//! Steps, one by one and as a list.
 ghost use Rattle.std.specs.Prelude.{◌≡◌};
 ghost use Rattle.std.specs.Result.{result_err};
 ghost use Rattle.lists.specs.Lists.{put};

@@ -14,7 +14,7 @@ pub const MAX_POOL: usize = 4096;
 /// The most words of a book.
 pub const MAX_BOOK: usize = 65536;
 
-/// The guarantee holds for every rule, by its interface and its laws alone.
+/// The guarantee holds for every rule, by its interface, its laws and its ranges alone.
 pub fn guarantee_holds<R: Rule>(rule: &R) -> u8
     ensures { Guaranteed (R.Rule.behaviour rule.now) }
 {

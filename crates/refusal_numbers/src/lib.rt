@@ -1,4 +1,4 @@
-// The numbers by which refusals are told, of all crates in one table.
+//! The numbers by which refusals are told, of all crates in one table.
 #![tactic(auto)]
 
 ghost use Rattle.std.specs.Prelude.{◌≡◌};
