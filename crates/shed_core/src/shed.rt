@@ -1,5 +1,6 @@
 //! The shed: the number of stations, its buffers' lengths, its counts and a record for each station.
 ghost use Rattle.std.specs.Prelude.{◌≤◌};
+ghost use Rattle.stations.specs.declared.TheConstants.{STATIONS};
 ghost use Rattle.protocol.specs.Sound.{AllSound};
 
 use crate::table::Table;
@@ -22,7 +23,7 @@ pub struct Shed {
     frames: usize,
     entries: usize,
     table: Table,
-    ghost few: { count ≤ 16 },
+    ghost few: { count ≤ STATIONS },
     ghost framed: { frames ≤ pool_len },
     ghost entered: { entries ≤ book_len },
     ghost sound: { AllSound count table.records },

@@ -16,6 +16,7 @@ use frames::pool::add;
 use protocol::refusal::Refusal;
 use protocol::types::Stand;
 use rules::Rule;
+use stations::STATIONS;
 
 // Copies the letter of one cell into another.
 fn copy_letter<L: Copy>(letters: &mut [L], from: usize, to: usize)
@@ -28,7 +29,13 @@ fn copy_letter<L: Copy>(letters: &mut [L], from: usize, to: usize)
 
 impl Shed {
     // The frames of the letters that station p writes in a round, by rising receiver.
-    fn gather<R: Rule>(&self, rule: &R, p: usize, round: u16, state: &R::State) -> ArrayVec<u64, 16>
+    fn gather<R: Rule>(
+        &self,
+        rule: &R,
+        p: usize,
+        round: u16,
+        state: &R::State,
+    ) -> ArrayVec<u64, STATIONS>
         requires { (p < self.now.count) × (round ≤ LAST_ROUND) }
         ensures { result.items ≡ frames_from (R.Rule.behaviour rule.now) self.now.count p round state.now 0 self.now.count }
     {
