@@ -1,4 +1,4 @@
-// A book entry: a station's finished round with the senders that it heard, as one word; and whom a book's words name.
+//! A book entry: a station's finished round with the senders that it heard, as one word; and whom a book's words name.
 ghost use Rattle.std.specs.Prelude.{◌≡◌};
 ghost use Rattle.frames.specs.Book.{packed_entry, station_in, round_in, senders_in, read_entry, EntryBack, EntryAgain, heard_set, heard_sets};
 

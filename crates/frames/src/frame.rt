@@ -1,4 +1,4 @@
-// A frame: a letter with its sender, its receiver and its round, as one word.
+//! A frame: a letter with its sender, its receiver and its round, as one word.
 ghost use Rattle.std.specs.Prelude.{◌≡◌, ◌<◌, ◌≤◌, is_some, IfSome};
 ghost use Rattle.rules.specs.declared.TheConstants.{LAST_ROUND};
 ghost use Rattle.frames.specs.Frame.{packed_frame, read_frame, readable, ReadsBack, PacksAgain};

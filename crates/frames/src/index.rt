@@ -1,4 +1,4 @@
-// The words of a book by station and round, so that whom a station heard is found without a search.
+//! The words of a book by station and round, so that whom a station heard is found without a search.
 ghost use Rattle.std.specs.Prelude.{◌≡◌, ℕ, List};
 ghost use Rattle.frames.specs.Book.{heard_sets};
 ghost use Rattle.frames.specs.Index.{Indexes};

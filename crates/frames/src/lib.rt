@@ -1,4 +1,4 @@
-// Frames, the pool's words and book entries: what the shed keeps as words of 64 bits.
+//! Frames, the pool's words and book entries: what the shed keeps as words of 64 bits.
 #![tactic(auto)]
 
 use rules::LAST_ROUND;

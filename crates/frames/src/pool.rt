@@ -1,4 +1,4 @@
-// The pool: words of which the first are frames.
+//! The pool: words of which the first are frames.
 ghost use Rattle.std.specs.Prelude.{◌≡◌, ◌<◌, ◌≤◌, cond, length, replicate, IfOk};
 ghost use Rattle.rules.specs.declared.TheConstants.{LAST_ROUND};
 ghost use Rattle.frames.specs.Pool.{has_place, found, taken_out, added, repeated};

@@ -1,4 +1,4 @@
-// Two stations settle one number by a list of calls; then one call more, and an audit from the book.
+//! Two stations settle one number by a list of calls; then one call more, and an audit from the book.
 #![tactic(auto)]
 
 use conduct::conduct;

@@ -1,4 +1,4 @@
-// The shed's calls, one by one and as lists of steps.
+//! The shed's calls, one by one and as lists of steps.
 use conduct::conduct;
 use conduct::steps::take_steps;
 use last::Last;

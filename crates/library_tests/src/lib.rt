@@ -1,4 +1,4 @@
-// The library on examples: what it answers as it is built, and what the two rules come to.
+//! The library on examples: what it answers as it is built, and what the two rules come to.
 #![tactic(auto)]
 
 #[cfg(test)]

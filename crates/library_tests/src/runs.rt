@@ -1,4 +1,4 @@
-// Lockstep runs: what the two rules come to by whom the stations hear.
+//! Lockstep runs: what the two rules come to by whom the stations hear.
 use last::Last;
 use protocol::refusal::Refusal;
 use recount::recount;

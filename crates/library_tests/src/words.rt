@@ -1,4 +1,4 @@
-// Frames, entries and the pool's words.
+//! Frames, entries and the pool's words.
 use frames::book::{heard_in_round, pack_entry, read_entry, senders};
 use frames::frame::{pack_frame, read_frame};
 use frames::index::Index;

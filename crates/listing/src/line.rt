@@ -1,4 +1,4 @@
-// A line of the listing.
+//! A line of the listing.
 ghost use Rattle.std.specs.Prelude.{◌≡◌, ◌+◌, ◌-◌, ◌≤◌, [], ◌++◌, length, take, drop, replicate, decimal};
 ghost use Rattle.listing.specs.declared.line.TheConstants.{CELLS};
 

@@ -1,4 +1,4 @@
-// The lines of the listing.
+//! The lines of the listing.
 ghost use Rattle.std.specs.Prelude.{◌≡◌, ◌+◌, ◌<◌, ◌≤◌, ◌++◌, length, decimal};
 ghost use Rattle.stations.specs.declared.TheConstants.{STATIONS};
 ghost use Rattle.listing.specs.declared.line.TheConstants.{CELLS};

@@ -1,4 +1,4 @@
-// The whole listing.
+//! The whole listing.
 ghost use Rattle.std.specs.Prelude.{◌≡◌, ◌≤◌, ◌++◌, length, IfOk, OnOk};
 ghost use Rattle.stations.specs.declared.TheConstants.{STATIONS};
 ghost use Rattle.protocol.specs.declared.TheConstants.{MAX_BOOK};

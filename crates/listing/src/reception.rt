@@ -1,4 +1,4 @@
-// How well a station was reached, counted from the book.
+//! How well a station was reached, counted from the book.
 ghost use Rattle.std.specs.Prelude.{◌≡◌, ◌*◌, ◌<◌, ◌≤◌, length};
 ghost use Rattle.stations.specs.declared.TheConstants.{STATIONS};
 ghost use Rattle.protocol.specs.declared.TheConstants.{MAX_BOOK};

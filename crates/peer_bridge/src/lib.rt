@@ -1,5 +1,5 @@
-// The library for a caller in C or Rust, so that the peer in plain Rust can compare its own results with it: one
-// function, which makes a list of requests.
+//! The library for a caller in C or Rust, so that the peer in plain Rust can compare its own results with it: one
+//! function, which makes a list of requests.
 #![tactic(auto)]
 
 ghost use Rattle.std.specs.Prelude.{◌≡◌};
@@ -64,9 +64,9 @@ fn make_all<R: Rule>(
     }
 }
 
-// Makes the requests of a new shed, one after another, and writes the reply to each as far as there are cells. The rule
-// goes by its number, 0 for third and any other for last. The pool and the book are the caller's; the cells for states
-// and letters are the bridge's own.
+/// Makes the requests of a new shed, one after another, and writes the reply to each as far as there are cells. The rule
+/// goes by its number, 0 for third and any other for last. The pool and the book are the caller's; the cells for states
+/// and letters are the bridge's own.
 #[unsafe(no_mangle)]
 pub extern "C" fn peer_bridge_run(
     rule: u8,

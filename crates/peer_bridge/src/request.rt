@@ -1,4 +1,4 @@
-// A request, its answer, and the reply that tells it.
+//! A request, its answer, and the reply that tells it.
 ghost use Rattle.std.specs.Prelude.{◌≡◌, length, slice_get, slice_set};
 ghost use Rattle.protocol.specs.Calls.{look_call};
 ghost use Rattle.shed_core.specs.Of.{world, world_of, ComesTo, StillLent};
@@ -12,16 +12,16 @@ use rules::Rule;
 use shed_core::buffers::Buffers;
 use shed_core::shed::Shed;
 
-// What is requested. By its kind this is
-// - a call of the shed: 0 open, with the first `at` opening values; 1 send, 5 turn, 6 crash and 7 look, of station `at`; 2
-//   deliver, 3 drop and 4 repeat, of the frame at place `at`;
-// - 8 recount, of the run of all opening values up to `round`, from the words of the book into the states;
-// - 9 what the state in cell `at` writes to `receiver`, where it is one of n stations in `round`;
-// - 10 the hull that the state in cell `at` shows;
-// - 11 the letter in cell `at`;
-// - any other: others than the shed write `word` into the pool, at place `at`.
-// The last four are how many cells of each buffer are lent to it. Recount's second buffer has as many cells as letters are
-// lent, and its row as many as words of the pool, 17 at most.
+/// What is requested. By its kind this is
+/// - a call of the shed: 0 open, with the first `at` opening values; 1 send, 5 turn, 6 crash and 7 look, of station `at`; 2
+///   deliver, 3 drop and 4 repeat, of the frame at place `at`;
+/// - 8 recount, of the run of all opening values up to `round`, from the words of the book into the states;
+/// - 9 what the state in cell `at` writes to `receiver`, where it is one of n stations in `round`;
+/// - 10 the hull that the state in cell `at` shows;
+/// - 11 the letter in cell `at`;
+/// - any other: others than the shed write `word` into the pool, at place `at`.
+/// The last four are how many cells of each buffer are lent to it. Recount's second buffer has as many cells as letters are
+/// lent, and its row as many as words of the pool, 17 at most.
 #[repr(C)]
 #[derive(Clone, Copy)]
 pub struct Request {
@@ -38,9 +38,9 @@ pub struct Request {
     pub book: usize,
 }
 
-// A refusal's number and 0, or 0 and the answer. An answer that is no number is told by one: a fate by its place among late,
-// again, taken and early; a hull or a packed letter by one more than its number, and none by 0; and what look shows by its
-// hull, times 65,536, and its round, times 3, and its stand, which is 0, 1 or 2.
+/// A refusal's number and 0, or 0 and the answer. An answer that is no number is told by one: a fate by its place among late,
+/// again, taken and early; a hull or a packed letter by one more than its number, and none by 0; and what look shows by its
+/// hull, times 65,536, and its round, times 3, and its stand, which is 0, 1 or 2.
 #[repr(C)]
 #[derive(Clone, Copy)]
 pub struct Reply {

@@ -1,4 +1,4 @@
-// The states of all stations after a round of the lockstep run, from those before it.
+//! The states of all stations after a round of the lockstep run, from those before it.
 ghost use Rattle.std.specs.Prelude.{◌≡◌, ◌<◌, ◌≤◌, if◌then◌else◌, length, nat_lt, take, None};
 ghost use Rattle.lists.specs.Lists.{tabulate, written};
 ghost use Rattle.stations.specs.declared.TheConstants.{STATIONS};

@@ -1,4 +1,4 @@
-// Whether a run goes ahead.
+//! Whether a run goes ahead.
 ghost use Rattle.std.specs.Prelude.{◌≡◌, Some, None, MatchResult};
 ghost use Rattle.recount.specs.Recount.{run_refusal};
 

@@ -1,4 +1,4 @@
-// The lockstep run, counted again from the words of a book.
+//! The lockstep run, counted again from the words of a book.
 #![tactic(auto)]
 
 ghost use Rattle.std.specs.Prelude.{◌≡◌, false, is_ok};

@@ -1,4 +1,4 @@
-// One round of the lockstep run.
+//! One round of the lockstep run.
 ghost use Rattle.std.specs.Prelude.{◌≡◌, true, is_ok};
 ghost use Rattle.recount.specs.Recount.{round_call, Advances};
 

@@ -1,4 +1,4 @@
-// The lockstep run up to a round, by the words of a book.
+//! The lockstep run up to a round, by the words of a book.
 ghost use Rattle.std.specs.Prelude.{◌≡◌, ◌≤◌, ◌++◌, length, take, drop};
 ghost use Rattle.stations.specs.declared.TheConstants.{STATIONS};
 ghost use Rattle.recount.specs.Recount.{recounted};

@@ -1,4 +1,4 @@
-// From the text of a schedule to what is printed of it.
+//! From the text of a schedule to what is printed of it.
 ghost use Rattle.std.specs.Prelude.{◌≡◌, IfOk, Ok};
 ghost use Rattle.schedule_text.specs.Reading.{plan};
 ghost use Rattle.schedule_text.specs.Writing.{PlanFits};

@@ -1,4 +1,4 @@
-// A run of a list of steps in a new shed, and its listing.
+//! A run of a list of steps in a new shed, and its listing.
 ghost use Rattle.std.specs.Prelude.{◌≡◌, IfOk};
 ghost use Rattle.protocol.specs.World.{shut};
 ghost use Rattle.shed_core.specs.Of.{world_of};

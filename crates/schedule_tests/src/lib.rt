@@ -1,4 +1,4 @@
-// Texts and what is printed of them.
+//! Texts and what is printed of them.
 #![tactic(auto)]
 
 #[cfg(test)]

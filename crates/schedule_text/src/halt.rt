@@ -1,4 +1,4 @@
-// Why a call that asks for memory came to nothing.
+//! Why a call that asks for memory came to nothing.
 ghost use Rattle.std.specs.Prelude.{◌≡◌};
 ghost use Rattle.schedule_text.specs.declared.halt.Halt.TheVariants.{Refused, NoMemory};
 

@@ -1,4 +1,4 @@
-// From the text of a schedule to the schedule.
+//! From the text of a schedule to the schedule.
 ghost use Rattle.std.specs.Prelude.{◌≡◌, ◌<◌, ◌≤◌, [], ◌∷◌, length, IfOk, IfSome, vec_items, MatchOption, MatchResult, ◌==◌};
 ghost use Rattle.std.specs.List.{position};
 ghost use Rattle.std.specs.Option.{option_map};

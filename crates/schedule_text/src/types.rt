@@ -1,4 +1,4 @@
-// A schedule, and what can be wrong with its text.
+//! A schedule, and what can be wrong with its text.
 ghost use Rattle.std.specs.Prelude.{◌≡◌};
 ghost use Rattle.schedule_text.specs.declared.halt.Halt.TheVariants.{Refused};
 ghost use Rattle.schedule_text.specs.Faults.{reason, fault_number, fault_line};

@@ -1,4 +1,4 @@
-// Reads a schedule from standard input and prints its listing, or its fault.
+//! Reads a schedule from standard input and prints its listing, or its fault.
 #![tactic(auto)]
 
 use schedule::answer::answer;

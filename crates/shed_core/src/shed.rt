@@ -12,6 +12,7 @@ mod opening;
 mod sending;
 mod turning;
 
+/// A shed: a new one is shut, and one that was opened stays open. Its buffers are lent to it anew for each call.
 #[derive(Clone, Copy, Debug, PartialEq, Eq)]
 pub struct Shed {
     // The number of stations, 0 while the shed is shut.

@@ -26,6 +26,7 @@ pub fn blank_record() -> StationRecord
 }
 
 impl Table {
+    /// A table in which no station has done anything.
     pub fn new() -> Table
         ensures { result.records ≡ replicate STATIONS blank }
     {

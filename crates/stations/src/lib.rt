@@ -1,4 +1,4 @@
-// Sets of stations.
+//! Sets of stations.
 #![tactic(auto)]
 
 ghost use Rattle.std.specs.Prelude.{◌≡◌, ℕ, ◌^◌, ◌<◌, ◌≤◌, false, ◌||◌, ◌&&◌, ◌==◌, nat_lt};

@@ -1,5 +1,5 @@
-// The worked examples of the documents. All hold of the definitions, and each function here runs the library's code on
-// some of them and promises the values that they compute.
+//! The worked examples of the documents. All hold of the definitions, and each function here runs the library's code on
+//! some of them and promises the values that they compute.
 #![tactic(auto)]
 
 ghost use Rattle.std.specs.Prelude.{◌≡◌, [], ◌∷◌, Some, map};
