@@ -162,8 +162,9 @@ def crate_names():
     return [line.split(":")[0].split()[0] for line in open("crates.txt", encoding="utf-8") if line.split("#")[0].strip()]
 
 
-def count_lines(names, folder):
-    return sum(len(path.read_text("utf-8").split("\n")) - 1 for name in names for path in pathlib.Path("crates", name, folder).rglob("*.*t") if path.suffix in (".rt", ".antt"))
+def count_lines(crate, folder):
+    files = [path for path in pathlib.Path("crates", crate, folder).rglob("*") if path.suffix in (".rt", ".antt")]
+    return sum(len(path.read_text("utf-8").split("\n")) - 1 for path in files)
 
 
 def counted():
@@ -175,7 +176,8 @@ def counted():
     ]
     sums = [0, 0, 0, 0]
     for name in names:
-        row = [count_lines([name], folder) for folder in ("src", "specs", "proofs")] + [len(list(pathlib.Path("crates", name, "must-fail").glob("*.edit")))]
+        row = [count_lines(name, folder) for folder in ("src", "specs", "proofs")]
+        row.append(len(list(pathlib.Path("crates", name, "must-fail").glob("*.edit"))))
         sums = [a + b for a, b in zip(sums, row)]
         rows.append(f"| `{name}` | " + " | ".join(f"{n:,}" if n else "" for n in row) + " |")
     rows.append(f"| {len(names)} crates | " + " | ".join(f"{n:,}" for n in sums) + " |")
@@ -204,11 +206,13 @@ def check_numbers():
         if not value.isdigit() or not re.search(rf"(?<![\d,]){int(value):,}(?![\d,]*\d)", pathlib.Path(page).read_text("utf-8")):
             wrong(page, 0, f"{name} is not told")
     table = dict(re.findall(r"^    (\w+) = (\d+),", pathlib.Path("crates/refusal_numbers/src/lib.rt").read_text("utf-8"), re.M))
-    told = {name: number for number, name in re.findall(r"^\| (\d+) \| `Refusal::(\w+)` \|", pathlib.Path("docs/CALLS.md").read_text("utf-8"), re.M)}
+    rows = re.findall(r"^\| (\d+) \| `Refusal::(\w+)` \|", pathlib.Path("docs/CALLS.md").read_text("utf-8"), re.M)
+    told = {name: number for number, name in rows}
     calls = {name for name in table if int(table[name]) < int(table["TooLong"])}
     if told != {name: table[name] for name in calls}:
         wrong("docs/CALLS.md", 0, "the refusals are not those of the table of numbers")
-    faults = re.findall(r"^\| (\d+) \| [^`|]+ \| [^|]+ \|$", pathlib.Path("docs/SCHEDULE.md").read_text("utf-8").partition("## Faults")[2].partition("Of 17 to 20")[0], re.M)
+    page = pathlib.Path("docs/SCHEDULE.md").read_text("utf-8").partition("## Faults")[2].partition("Of 17 to 20")[0]
+    faults = re.findall(r"^\| (\d+) \| [^`|]+ \| [^|]+ \|$", page, re.M)
     if set(faults) != set(table.values()) - set(told.values()):
         wrong("docs/SCHEDULE.md", 0, "the faults are not those of the table of numbers")
 
