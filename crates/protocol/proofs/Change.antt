@@ -30,6 +30,7 @@ module _ {S L : Type 0} (R : Behaviour S L) (values : List ℕ) (B : ℕ) (w : W
     book_is = i.book_is;
     over = i.over;
     whole = i.whole;
+    among = i.among;
     known = i.known;
   }
 
@@ -60,5 +61,6 @@ module _ {S L : Type 0} (R : Behaviour S L) (values : List ℕ) (B : ℕ) (w : W
     book_is = i.book_is;
     over = i.over;
     whole = i.whole;
+    among = i.among;
     known = i.known;
   }

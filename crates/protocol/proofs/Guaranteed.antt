@@ -13,7 +13,7 @@ use Rattle.protocol.specs.Steps.{step, after, refusals}
 use Rattle.protocol.specs.Calls.{opened, state_of}
 use Rattle.protocol.specs.Tally.{Tally, heard_in, start, tally, tally_accepted}
 use Rattle.protocol.specs.Guarantee.{Guaranteed, Sized, entry, accepted_turns, turns_by}
-use Rattle.protocol.proofs.Words.{book_agrees}
+use Rattle.protocol.proofs.Words.{book_agrees, entries_name}
 use Rattle.protocol.proofs.EachTurn.{Counts, stations_of, tally_turns, tally_counts, start_counts, entry_for_each}
 use Rattle.rules.proofs.Runs.{Known, hull_stays}
 use Rattle.protocol.proofs.Invariant.{Inv, Grows, Follows}
@@ -95,6 +95,7 @@ guaranteed {S} {L} R letter_fits face laws ranges new values small fine calls =
     λ p x h e. sym (ap R.hull (state p h)) ∙ e in
     record {
       in_order = rw (i.entries_are, i.book_is) (entry_for_each u (accepted_turns calls (refusals R w calls)) (B - length u.triples) turns i.whole counts);
+      named = λ j l. rw i.book_is (entries_name (length values) u.triples (B - length u.triples) j i.whole i.among (omega (arith, l, i.entries_are)));
       recorded = rw (length-replicate {A = ℕ} (length new.book) 0) i.book_is;
       filled = i.entries_are;
       fits = omega (

@@ -21,7 +21,7 @@ use Rattle.protocol.proofs.Outcomes.{attempt_by}
 use Rattle.protocol.specs.Tally.{Tally, Slip, Triple, heard_in, nowhere}
 use Rattle.protocol.specs.Guarantee.{entry}
 use Rattle.rules.proofs.Runs.{Known}
-use Rattle.protocol.proofs.Words.{Whole}
+use Rattle.protocol.proofs.Words.{Whole, Among}
 
 -- the note that a held letter is
 abbrev pub held : Option Held → ℕ → ℕ → Bool
@@ -80,6 +80,7 @@ module _ {S L : Type 0} (R : Behaviour S L) (values : List ℕ) where
     pub book_is : w.book ≡ map entry t.triples ++ replicate (B - length t.triples) 0
     pub over : Over t.rounds t.triples
     pub whole : Whole t.triples
+    pub among : Among (length values) t.triples
     pub known : Known (heard_in t.triples) t.rounds
 
   -- ---- what stays as rounds go by

@@ -68,5 +68,6 @@ module _ {S L : Type 0} (R : Behaviour S L) (face : Interface R) (w : World S L)
     book_is = rw sub-zero;
     over = tt;
     whole = tt;
+    among = tt;
     known = λ p k q e. absurd (false≢true e);
   }

@@ -26,7 +26,7 @@ use Rattle.protocol.specs.Calls.{turn_tests, state_of, mailbox_of, turn_refusal,
 use Rattle.protocol.specs.Tally.{Tally, Triple, heard_in, tally_accepted}
 use Rattle.protocol.specs.Guarantee.{entry}
 use Rattle.lists.proofs.Tables.{tabulate_same}
-use Rattle.protocol.proofs.Words.{Whole}
+use Rattle.protocol.proofs.Words.{Whole, Among}
 use Rattle.rules.proofs.Runs.{Known, run_grows}
 use Rattle.protocol.proofs.Invariant.{Inv, Live, Seat, Seated, Over, Grows, held, seat_kept, carry_kept, brought_kept, Matched, matched, Follows, attempted}
 use Rattle.protocol.proofs.Outcomes.{none_holds}
@@ -57,6 +57,10 @@ over_more rounds rounds' (t ∷ ts) u g h o = (omega (arith, o.0, g t.station), 
 whole_more : (ts : List Triple) (u : Triple) → u.round ≤ LAST_ROUND → Within u.heard → Whole ts → Whole (ts ++ (u ∷ []))
 whole_more [] u h l o = (h, l, tt)
 whole_more (t ∷ ts) u h l o = (o.0, o.1, whole_more ts u h l o.2)
+
+among_more : (n : ℕ) (ts : List Triple) (u : Triple) → u.station < n → ((q : ℕ) → contains u.heard q ≡ true → q < n) → Among n ts → Among n (ts ++ (u ∷ []))
+among_more n [] u h l o = (h, l, tt)
+among_more n (t ∷ ts) u h l o = (o.0, o.1, among_more n ts u h l o.2)
 
 -- ---- one more word in the book
 module _ (ts : List Triple) (book : List ℕ) (B c : ℕ) (book_is : book ≡ map entry ts ++ replicate (B - length ts) 0) (c_is : c ≡ length ts) where
@@ -235,6 +239,8 @@ module _ {S L : Type 0} (R : Behaviour S L) (values : List ℕ) (B : ℕ) (w : W
         over = over_more t.rounds (moved t.rounds p) t.triples (new R values t i.known p) (moved_more t.rounds p)
             (rw (moved_here t.rounds p) (omega arith)) i.over;
         whole = whole_more t.triples (new R values t i.known p) at.limit (within_set (t.notes p rd)) i.whole;
+        among = among_more (length values) t.triples (new R values t i.known p) h
+            (λ q m. (a.marked q (sym (ap (λ x. contains x q) heard_is) ∙ m)).sender) i.among;
         known = known_then;
       }
 

@@ -6,9 +6,10 @@ use Rattle.rules.specs.Rule.{Behaviour, Interface, Laws, Ranges, lockstep}
 use Rattle.protocol.specs.declared.refusal.Refusal.{Refusal}
 use Rattle.protocol.specs.declared.types.Step.{Step}
 use Rattle.protocol.specs.declared.types.Step.TheVariants.{Send, Deliver, Drop, Repeat, Turn, Crash}
-use Rattle.frames.specs.Book.{entry_word, read_entry, book_heard}
+use Rattle.frames.specs.Book.{entry_word, station_in, round_in, book_heard}
 use Rattle.protocol.specs.declared.TheConstants.{MAX_POOL, MAX_BOOK}
 use Rattle.protocol.specs.Rows.{letter_cells}
+use Rattle.protocol.specs.Sound.{NamesStations}
 use Rattle.protocol.specs.World.{World, station}
 use Rattle.protocol.specs.Steps.{after, refusals}
 use Rattle.protocol.specs.Calls.{open_refusal, opened, state_of, sight_of, look_call}
@@ -39,8 +40,8 @@ turns_by p turns = count_by (λ q. q == p) turns
 -- finished, how often it had turned before; so a station's turns are its entries for round 0, 1, 2 and so on
 pub record EntryForEach (turns : List ℕ) (entries : ℕ) (book : List ℕ) : Type 0 where
   pub as_many : entries ≡ length turns
-  pub station : (i : ℕ) → i < length turns → (read_entry (slice_index book i)).0 ≡ slice_index turns i
-  pub round : (i : ℕ) → i < length turns → (read_entry (slice_index book i)).1 ≡ turns_by (slice_index turns i) (take i turns)
+  pub station : (i : ℕ) → i < length turns → station_in (slice_index book i) ≡ slice_index turns i
+  pub round : (i : ℕ) → i < length turns → round_in (slice_index book i) ≡ turns_by (slice_index turns i) (take i turns)
 
 -- ---- sizes
 -- an open shed: it has 1 to most stations, a state and a row of letters for each, and a pool and a book of as many words
@@ -85,6 +86,8 @@ module _ {S L : Type 0} (R : Behaviour S L) (values : List ℕ) (w : World S L) 
   pub record Guarantee (calls : List Step) : Type 0 where
     -- the book has one entry for each accepted turn, in the order of the calls, for its station and round
     pub in_order : EntryForEach (turns_in calls) (left calls).entries (left calls).book
+    -- no entry names a station that does not exist, neither the one that turned nor a sender
+    pub named : (i : ℕ) → i < (left calls).entries → NamesStations (length values) (slice_index (left calls).book i)
     -- each entry names exactly the senders that the tally noted for its station and round; then come zeros
     pub recorded : (left calls).book ≡ map entry (tally_of calls).triples ++ replicate (length w.book - length (tally_of calls).triples) 0
     pub filled : (left calls).entries ≡ length (tally_of calls).triples

@@ -2,7 +2,7 @@
 use Rattle.std.specs.Prelude.{◌≡◌, ℕ, ◌<◌, ◌≤◌, true, List, Some, slice_index_or}
 use Rattle.stations.specs.Stations.{contains}
 use Rattle.rules.specs.declared.TheConstants.{LAST_ROUND}
-use Rattle.frames.specs.Book.{senders_in}
+use Rattle.frames.specs.Book.{station_in, senders_in}
 use Rattle.protocol.specs.declared.types.Held.{Held}
 use Rattle.protocol.specs.declared.types.StationRecord.{StationRecord}
 use Rattle.protocol.specs.Records.{blank}
@@ -20,6 +20,7 @@ pub record Sound (n p : ℕ) (s : StationRecord) : Type 0 where
 abbrev pub AllSound : ℕ → List StationRecord → Type 0
 AllSound n records = (p : ℕ) → Sound n p (slice_index_or records p blank)
 
--- a word of the book names as senders only stations of n
-abbrev pub NamesStations : (n word : ℕ) → Type 0
-NamesStations n word = (q : ℕ) → contains (senders_in word) q ≡ true → q < n
+-- a word of the book names only stations of n, as the one that turned and as senders
+pub record NamesStations (n word : ℕ) : Type 0 where
+  pub turner : station_in word < n
+  pub senders : (q : ℕ) → contains (senders_in word) q ≡ true → q < n
