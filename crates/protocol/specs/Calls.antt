@@ -10,7 +10,7 @@ use Rattle.protocol.specs.declared.TheConstants.{MAX_POOL, MAX_BOOK}
 use Rattle.protocol.specs.declared.types.StationRecord.{StationRecord}
 use Rattle.protocol.specs.declared.types.Stand.TheVariants.{Fresh, Down}
 use Rattle.protocol.specs.declared.refusal.Refusal.{Refusal}
-use Rattle.protocol.specs.declared.refusal.Refusal.TheVariants.{AlreadyOpen, ValueCount, BufferSize, BufferMismatch, Unreadable, PoolFull}
+use Rattle.protocol.specs.declared.refusal.Refusal.TheVariants.{AlreadyOpen, BufferSize, BufferMismatch, Unreadable, PoolFull}
 use Rattle.protocol.specs.declared.types.Sight.{Sight}
 use Rattle.protocol.specs.declared.types.Fate.{Fate}
 use Rattle.protocol.specs.declared.types.Fate.TheVariants.{Late, Again, Taken, Early}
@@ -20,7 +20,7 @@ use Rattle.frames.specs.Book.{entry_word}
 use Rattle.frames.specs.Pool.{take_out}
 use Rattle.protocol.specs.Refusals.{first_refusal, attempt}
 use Rattle.protocol.specs.Rows.{letter_cells, letter_cell, held_cell}
-use Rattle.protocol.specs.Tests.{ready_tests, place_tests, station_tests, standing_tests, speaker_tests, turner_tests}
+use Rattle.protocol.specs.Tests.{ready_tests, count_tests, place_tests, station_tests, standing_tests, speaker_tests, turner_tests}
 use Rattle.protocol.specs.Records.{blank, due, hearing, holding, listened, judged}
 use Rattle.protocol.specs.World.{World, station}
 
@@ -71,7 +71,7 @@ module _ {S L : Type 0} (R : Behaviour S L) where
   open_tests w values =
       let n : ℕ = length values in
       (not (w.n == 0), AlreadyOpen) ∷
-      (n == 0 || nat_lt R.most n, ValueCount) ∷
+      count_tests R.most n ++
       (length w.pool == 0 || nat_lt MAX_POOL (length w.pool) || nat_lt MAX_BOOK (length w.book), BufferSize) ∷
       (nat_lt (length w.states) n || nat_lt (length w.letters) (letter_cells n), BufferMismatch) ∷ []
 

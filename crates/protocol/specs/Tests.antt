@@ -3,7 +3,7 @@ use Rattle.std.specs.Prelude.{ℕ, Bool, not, ◌||◌, List, [], ◌∷◌, ◌
 use Rattle.rules.specs.declared.TheConstants.{LAST_ROUND}
 use Rattle.protocol.specs.declared.types.StationRecord.{StationRecord}
 use Rattle.protocol.specs.declared.refusal.Refusal.{Refusal}
-use Rattle.protocol.specs.declared.refusal.Refusal.TheVariants.{Shut, BufferMismatch, NoSuchStation, NoSuchPlace, StationDown, AlreadySent}
+use Rattle.protocol.specs.declared.refusal.Refusal.TheVariants.{Shut, ValueCount, BufferMismatch, NoSuchStation, NoSuchPlace, StationDown, AlreadySent}
 use Rattle.protocol.specs.declared.refusal.Refusal.TheVariants.{NotListening, BookFull, LastRound}
 use Rattle.protocol.specs.Records.{is_fresh, is_listening, is_down}
 use Rattle.protocol.specs.Rows.{letter_cells}
@@ -17,6 +17,10 @@ mismatched w = nat_lt (length w.states) w.n || nat_lt (length w.letters) (letter
 -- of every call but open: the shed is open, and its buffers fit it
 abbrev pub ready_tests : {S L : Type 0} → World S L → List (Bool × Refusal)
 ready_tests w = ((w.n == 0), Shut) ∷ (mismatched w, BufferMismatch) ∷ []
+
+-- n stations or opening values, where a rule has so many at the most
+abbrev pub count_tests : (most n : ℕ) → List (Bool × Refusal)
+count_tests most n = (n == 0 || nat_lt most n, ValueCount) ∷ []
 
 -- place k, in a pool of so many frames
 abbrev pub place_tests : (frames k : ℕ) → List (Bool × Refusal)

@@ -1,20 +1,20 @@
 -- What one lockstep round and recount answer and leave.
-use Rattle.std.specs.Prelude.{◌≡◌, ℕ, suc, ◌+◌, ◌<◌, min, Bool, ◌||◌, List, [], ◌∷◌, length, Option, Result, ◌==◌, nat_le, nat_lt, slice_index_or}
+use Rattle.std.specs.Prelude.{◌≡◌, ℕ, suc, ◌+◌, ◌<◌, min, Bool, List, [], ◌∷◌, ◌++◌, length, Option, Result, nat_le, nat_lt, slice_index_or}
 use Rattle.lists.specs.Lists.{written}
 use Rattle.stations.specs.declared.StationSet.{StationSet}
 use Rattle.rules.specs.declared.TheConstants.{LAST_ROUND}
 use Rattle.rules.specs.Rule.{Behaviour, Heard, letter_heard, next_state, lockstep}
 use Rattle.frames.specs.Book.{book_heard, hears}
 use Rattle.protocol.specs.declared.refusal.Refusal.{Refusal}
-use Rattle.protocol.specs.declared.refusal.Refusal.TheVariants.{ValueCount, BufferMismatch, LastRound}
-use Rattle.protocol.specs.Refusals.{first_refusal}
-use Rattle.protocol.specs.Refusals.{attempt}
+use Rattle.protocol.specs.declared.refusal.Refusal.TheVariants.{BufferMismatch, LastRound}
+use Rattle.protocol.specs.Refusals.{first_refusal, attempt}
+use Rattle.protocol.specs.Tests.{count_tests}
 
 -- why a run is refused, in checking order: by the rule's most stations and their number, by the shortest buffer, and where
 -- the round is too late
 abbrev pub run_refusal : (most n shortest : ℕ) (late : Bool) → Option Refusal
 run_refusal most n shortest late =
-    first_refusal ((n == 0 || nat_lt most n, ValueCount) ∷ (nat_lt shortest n, BufferMismatch) ∷ (late, LastRound) ∷ [])
+    first_refusal (count_tests most n ++ (nat_lt shortest n, BufferMismatch) ∷ (late, LastRound) ∷ [])
 
 -- ---- one round
 module _ {S L : Type 0} (R : Behaviour S L) (n : ℕ) where
