@@ -40,7 +40,7 @@ pub(crate) fn senders_in(word: u64) -> StationSet
 }
 
 /// The station, the round and the heard set of a word. Every word is an entry: its low 32 bits are ignored, and without
-/// them the entry packs again into the same word. A tuple, as a frame is read.
+/// them the entry packs again into the same word.
 pub fn read_entry(word: u64) -> (usize, u16, StationSet)
     ensures entry { result ≡ read_entry word }
     ensures packs_again { EntryAgain word result }
@@ -59,8 +59,7 @@ pub fn senders(words: &[u64], station: usize, round: u16) -> StationSet
         .map_or(StationSet::empty(), senders_in)
 }
 
-/// Whom the words name for each station in a round, in one pass. The words are read from the last to the first, so that
-/// the first for a station stays. Who asks for one round needs no table; an `Index` answers for every round after one pass.
+/// Whom the words name for each station in a round, by the first word for both, in one pass over the words.
 pub fn heard_in_round(words: &[u64], round: u16) -> [StationSet; STATIONS]
     ensures { result ≡ heard_sets words.now round }
 {

@@ -30,7 +30,7 @@ pub fn pack_frame<R: Rule>(
 
 /// The sender, the receiver, the round and the letter of a word among n stations, or none if it is not readable: it is
 /// readable exactly when its sender and its receiver are below n and the rest unpacks. What is read packs again into the
-/// same word. A tuple in an `Option`, so that what is read is told together or not at all.
+/// same word.
 #[tactic(auto, unfolding(crate::specs::Frame::read_frame))]
 pub fn read_frame<R: Rule>(rule: &R, n: usize, word: u64) -> Option<(usize, usize, u16, R::Letter)>
     ensures frame { result ≡ read_frame (R.Rule.behaviour rule.now) n word }

@@ -12,7 +12,7 @@ use std::array;
 const PLACES: usize = STATIONS * ROUNDS as usize;
 
 /// The first word of a book for each station and round, at the place that its upper 16 bits name; 0 where there is none.
-/// A fixed table, 512 KiB by value, and no map: recounting may want no memory from the heap.
+/// It takes 512 KiB by value, and no memory from the heap.
 #[derive(Clone, Copy)]
 pub struct Index {
     words: [u64; PLACES],

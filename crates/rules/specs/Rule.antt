@@ -5,6 +5,7 @@ use Rattle.std.specs.Borrow.{Array, RattleType}
 use Rattle.std.specs.Mem.{FitsInMemory}
 use Rattle.std.specs.contracts.option.Option.{the_row as option}
 use Rattle.lists.specs.Lists.{tabulate}
+use Rattle.stations.specs.declared.TheConstants.{STATIONS}
 use Rattle.rules.specs.declared.TheConstants.{LAST_ROUND}
 
 -- ---- a rule
@@ -30,9 +31,9 @@ outside most n station round = n == 0 || nat_lt most n || nat_le n station || na
 
 -- what a caller may rely on, whatever it asks
 pub record Interface {S L : Type 0} (R : Behaviour S L) : Type 0 where
-  -- there are 1 to 16 stations
+  -- there is a station, and no more than there can be
   pub most_some : 1 ≤ R.most
-  pub most_few : R.most ≤ 16
+  pub most_few : R.most ≤ STATIONS
   -- there is no letter where a call speaks of no sender or of no receiver
   pub no_letter : (n sender round receiver : ℕ) (s : S) → T (outside R.most n sender round || nat_le n receiver) → R.letter n sender round s receiver ≡ None
   -- the state stays where a call speaks of no station, or where the mailbox has not a place for each station
@@ -115,4 +116,4 @@ pub record Ranges {S L : Type 0} (R : Behaviour S L) (letter_fits : L → Bool) 
 
 -- Who makes a mailbox of sixteen places, each with a letter or nothing, does not know how large a letter is: it fits in memory.
 abbrev pub MailboxRoom : RattleType → Type 0
-MailboxRoom letter = FitsInMemory (Array (option letter) 16)
+MailboxRoom letter = FitsInMemory (Array (option letter) STATIONS)
