@@ -10,7 +10,7 @@ use Rattle.std.proofs.lemmas.Fmt.{decimal_nonempty}
 use Rattle.protocol.specs.declared.types.Step.{Step}
 use Rattle.schedule_text.specs.declared.reader.TheConstants.{SHORTEST_STEP}
 use Rattle.schedule_text.specs.Reading.{pieces, step_line, NoStep}
-use Rattle.schedule_text.specs.Writing.{number_of}
+use Rattle.schedule_text.specs.Writing.{step_number}
 use Rattle.schedule_text.proofs.Cutting.{cut_at, first_cut}
 use Rattle.schedule_text.proofs.Steps.{some_piece}
 use Rattle.schedule_text.proofs.ReadBack.{without, without_step, pieces_line}
@@ -20,7 +20,7 @@ use Rattle.schedule_text.proofs.ReadOnly.{step_only}
 step_line_length : (line : List ℕ) (s : Step) → step_line line ≡ Some s → SHORTEST_STEP ≤ length line
 step_line_length line s e =
     let o = step_only line s e in
-    omega (arith, ap length o.1, decimal_nonempty (number_of s) (omega (arith, o.0)))
+    omega (arith, ap length o.1, decimal_nonempty (step_number s) (omega (arith, o.0)))
 
 -- and no line end
 step_line_unbroken : (line : List ℕ) (s : Step) → step_line line ≡ Some s → without 10 line ≡ true

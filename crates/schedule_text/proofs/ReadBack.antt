@@ -13,7 +13,7 @@ use Rattle.catalogue.specs.Names.{NameFits, text_of}
 use Rattle.catalogue.proofs.Names.{names_read_back}
 use Rattle.schedule_text.specs.declared.reader.TheConstants.{MAX_VALUES, FIRST_STEP}
 use Rattle.schedule_text.specs.Reading.{pieces, numbers_in, values_line, rule_line, step_with, step_line, Plan, read_text, steps_from, at_least_one}
-use Rattle.schedule_text.specs.Writing.{write_rule, write_value, letter_of, number_of, write_step, ended, write_schedule, PlanFits}
+use Rattle.schedule_text.specs.Writing.{write_rule, write_value, step_letter, step_number, write_step, ended, write_schedule, PlanFits}
 use Rattle.schedule_text.specs.Judging.{Unbroken}
 use Rattle.schedule_text.proofs.Numbers.{number_back}
 use Rattle.schedule_text.proofs.Steps.{prepend, step_more}
@@ -76,7 +76,7 @@ without_values [] fit = refl
 without_values (v ∷ vs) fit = without_append 10 (decimal v) (flat_map write_value vs) (without_decimal 10 v (omega arith) fit.0) (without_values vs fit.1)
 
 -- ---- the steps
-letter_step : (s : Step) → step_with (letter_of s) (Some (number_of s)) ≡ Some s
+letter_step : (s : Step) → step_with (step_letter s) (Some (step_number s)) ≡ Some s
 letter_step (Send n) = refl
 letter_step (Deliver n) = refl
 letter_step (Drop n) = refl
@@ -84,10 +84,10 @@ letter_step (Repeat n) = refl
 letter_step (Turn n) = refl
 letter_step (Crash n) = refl
 
-pub step_back : (s : Step) → number_of s < 2 ^ 16 → step_line (write_step s) ≡ Some s
-step_back s fit = ap (step_with (letter_of s)) (number_back (number_of s) fit) ∙ letter_step s
+pub step_back : (s : Step) → step_number s < 2 ^ 16 → step_line (write_step s) ≡ Some s
+step_back s fit = ap (step_with (step_letter s)) (number_back (step_number s) fit) ∙ letter_step s
 
-letter_unbroken : (s : Step) → eqb (letter_of s) 10 ≡ false
+letter_unbroken : (s : Step) → eqb (step_letter s) 10 ≡ false
 letter_unbroken (Send n) = refl
 letter_unbroken (Deliver n) = refl
 letter_unbroken (Drop n) = refl
@@ -95,8 +95,8 @@ letter_unbroken (Repeat n) = refl
 letter_unbroken (Turn n) = refl
 letter_unbroken (Crash n) = refl
 
-pub without_step : (s : Step) → number_of s < 2 ^ 16 → without 10 (write_step s) ≡ true
-without_step s fit = grind (arith, letter_unbroken s, without_decimal 10 (number_of s) (omega arith) fit)
+pub without_step : (s : Step) → step_number s < 2 ^ 16 → without 10 (write_step s) ≡ true
+without_step s fit = grind (arith, letter_unbroken s, without_decimal 10 (step_number s) (omega arith) fit)
 
 -- a line's end, and the rest
 pub ended_then : (line rest : List ℕ) → ended line ++ rest ≡ line ++ 10 ∷ rest
@@ -105,7 +105,7 @@ ended_then line rest = append_assoc line (10 ∷ []) rest
 abbrev write_steps : List Step → List ℕ
 write_steps ss = flat_map (λ s. ended (write_step s)) ss
 
-steps_back : (k : ℕ) (ss : List Step) → FIRST_STEP ≤ k → AllByRecursion (λ s. number_of s < 2 ^ 16) ss → steps_from k (pieces 10 (write_steps ss)) ≡ Ok ss
+steps_back : (k : ℕ) (ss : List Step) → FIRST_STEP ≤ k → AllByRecursion (λ s. step_number s < 2 ^ 16) ss → steps_from k (pieces 10 (write_steps ss)) ≡ Ok ss
 unfolding pieces
 steps_back k [] late fit = refl
 steps_back k (s ∷ ss) late fit =

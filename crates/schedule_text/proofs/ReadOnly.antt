@@ -19,7 +19,7 @@ use Rattle.schedule_text.specs.declared.reader.TheConstants.{MAX_BYTES, FIRST_ST
 use Rattle.schedule_text.specs.Reading.{pieces, all_but_last, last_of, finished, unfinished, number_in, with_first, numbers_in, values_in}
 use Rattle.schedule_text.specs.Reading.{values_line, rule_line, step_of, step_with, step_line, Plan, is_right, fault_at, first_wrong, and_step}
 use Rattle.schedule_text.specs.Reading.{steps_in, planned, plan_in, unless, read_lines, read_text}
-use Rattle.schedule_text.specs.Writing.{write_rule, write_value, letter_of, number_of, write_step, ended, write_schedule, PlanFits}
+use Rattle.schedule_text.specs.Writing.{write_rule, write_value, step_letter, step_number, write_step, ended, write_schedule, PlanFits}
 use Rattle.schedule_text.specs.Judging.{ValuesOn}
 use Rattle.lists.proofs.Options.{none_some}
 use Rattle.lists.proofs.Results.{ok_err, some_is}
@@ -47,27 +47,27 @@ rule_only line r h =
     (only.0, sym (take-append-drop 5 line) ∙ ap (λ l. l ++ drop 5 line) front ∙ ap (λ l. codes "rule " ++ l) (sym only.1))
 
 pub record Written (c n : ℕ) (s : Step) : Type 0 where
-  pub letter : c ≡ letter_of s
-  pub number : n ≡ number_of s
+  pub letter : c ≡ step_letter s
+  pub number : n ≡ step_number s
 
 step_of_only : (c n : ℕ) (s : Step) → step_of c n ≡ Some s → Written c n s
 step_of_only c n s h = record { letter = grind (arith, nat_tests); number = grind (arith, nat_tests) }
 
-pub step_only : (line : List ℕ) (s : Step) → step_line line ≡ Some s → (number_of s < 2 ^ 16) × (line ≡ write_step s)
+pub step_only : (line : List ℕ) (s : Step) → step_line line ≡ Some s → (step_number s < 2 ^ 16) × (line ≡ write_step s)
 step_only [] s h = none_some h
 step_only (c ∷ []) s h = none_some h
 step_only (c ∷ b ∷ bs) s h = by_blank_and_number (eqb b 32) (number_in bs) refl refl h
   where
     by_blank_and_number : (t : Bool) (o : Option ℕ) → eqb b 32 ≡ t → number_in bs ≡ o → cond t (step_with c o) None ≡ Some s →
-        (number_of s < 2 ^ 16) × (c ∷ b ∷ bs ≡ write_step s)
+        (step_number s < 2 ^ 16) × (c ∷ b ∷ bs ≡ write_step s)
     by_blank_and_number false o e f is = none_some is
     by_blank_and_number true None e f is = none_some is
     by_blank_and_number true (Some n) e f is =
         let w = step_of_only c n s is in
         let d = number_only bs n f in (
           omega (arith, w.number, d.0),
-          ap (λ x. x ∷ b ∷ bs) w.letter ∙ ap (λ x. letter_of s ∷ x ∷ bs) (eqb-true b 32 e)
-              ∙ ap (λ l. letter_of s ∷ 32 ∷ l) (sym d.1 ∙ ap decimal w.number),
+          ap (λ x. x ∷ b ∷ bs) w.letter ∙ ap (λ x. step_letter s ∷ x ∷ bs) (eqb-true b 32 e)
+              ∙ ap (λ l. step_letter s ∷ 32 ∷ l) (sym d.1 ∙ ap decimal w.number),
         )
 
 -- ---- the values
@@ -115,7 +115,7 @@ values_only line vs h =
 -- ---- the steps
 pub record Stepped (ls : List (List ℕ)) : Type 0 where
   pub is : flat_map ended ls ≡ flat_map (λ s. ended (write_step s)) (steps_in ls)
-  pub fit : AllByRecursion (λ s. number_of s < 2 ^ 16) (steps_in ls)
+  pub fit : AllByRecursion (λ s. step_number s < 2 ^ 16) (steps_in ls)
   pub count : length (steps_in ls) ≡ length ls
 
 steps_only : (k : ℕ) (ls : List (List ℕ)) → FIRST_STEP ≤ k → first_wrong k ls ≡ None → Stepped ls
@@ -134,7 +134,7 @@ steps_only k (l ∷ ls) late h = by_first_line (is_right k l) refl h (steps_only
         record {
           is = ap (λ x. ended x ++ flat_map ended ls) d.1 ∙ ap (λ r. ended (write_step step.0) ++ r) more.is
               ∙ ap (flat_map (λ s. ended (write_step s))) (sym all);
-          fit = subst (AllByRecursion (λ s. number_of s < 2 ^ 16)) (sym all) (d.0, more.fit);
+          fit = subst (AllByRecursion (λ s. step_number s < 2 ^ 16)) (sym all) (d.0, more.fit);
           count = ap length all ∙ ap suc more.count;
         }
 

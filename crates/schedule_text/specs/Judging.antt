@@ -8,7 +8,7 @@ use Rattle.schedule_text.specs.declared.types.Fault.{Fault}
 use Rattle.schedule_text.specs.declared.types.Fault.TheVariants.{TooLong, WrongRule, WrongValues, WrongStep, Unfinished}
 use Rattle.schedule_text.specs.declared.reader.TheConstants.{MAX_BYTES, MAX_VALUES, FIRST_STEP}
 use Rattle.schedule_text.specs.Reading.{Plan, read_text}
-use Rattle.schedule_text.specs.Writing.{write_rule, write_values, write_step, number_of, ended, write_schedule, PlanFits, NumbersReadBack, SchedulesReadBack}
+use Rattle.schedule_text.specs.Writing.{write_rule, write_values, write_step, step_number, ended, write_schedule, PlanFits, NumbersReadBack, SchedulesReadBack}
 
 -- no line end (byte 10) stands in these bytes
 abbrev pub Unbroken : List ℕ → Type 0
@@ -32,7 +32,7 @@ abbrev pub RightLine : ℕ → List ℕ → Type 0
 RightLine zero line = ⊥
 RightLine (suc zero) line = (r : RuleName) × NameFits r × (line ≡ write_rule r)
 RightLine (suc (suc zero)) line = (values : List ℕ) × ValuesOn line values
-RightLine (suc (suc (suc k))) line = (s : Step) × (number_of s < 2 ^ 16) × (line ≡ write_step s)
+RightLine (suc (suc (suc k))) line = (s : Step) × (step_number s < 2 ^ 16) × (line ≡ write_step s)
 
 -- these lines are right, of which the first has the number k
 abbrev pub AllRightLines : ℕ → List (List ℕ) → Type 0

@@ -19,24 +19,24 @@ abbrev pub write_values : List ℕ → List ℕ
 write_values values = codes "values" ++ flat_map write_value values
 
 -- s, d, x, r, t or c, and the number
-abbrev pub letter_of : Step → ℕ
-letter_of (Send n) = 115
-letter_of (Deliver n) = 100
-letter_of (Drop n) = 120
-letter_of (Repeat n) = 114
-letter_of (Turn n) = 116
-letter_of (Crash n) = 99
+abbrev pub step_letter : Step → ℕ
+step_letter (Send n) = 115
+step_letter (Deliver n) = 100
+step_letter (Drop n) = 120
+step_letter (Repeat n) = 114
+step_letter (Turn n) = 116
+step_letter (Crash n) = 99
 
-abbrev pub number_of : Step → ℕ
-number_of (Send n) = n
-number_of (Deliver n) = n
-number_of (Drop n) = n
-number_of (Repeat n) = n
-number_of (Turn n) = n
-number_of (Crash n) = n
+abbrev pub step_number : Step → ℕ
+step_number (Send n) = n
+step_number (Deliver n) = n
+step_number (Drop n) = n
+step_number (Repeat n) = n
+step_number (Turn n) = n
+step_number (Crash n) = n
 
 abbrev pub write_step : Step → List ℕ
-write_step s = letter_of s ∷ 32 ∷ decimal (number_of s)
+write_step s = step_letter s ∷ 32 ∷ decimal (step_number s)
 
 -- a line with its end
 abbrev pub ended : List ℕ → List ℕ
@@ -53,7 +53,7 @@ pub record PlanFits (p : Plan) : Type 0 where
   pub few_values : length p.values ≤ MAX_VALUES
   pub values_fit : AllByRecursion (λ n. n < 2 ^ 16) p.values
   pub some_steps : 0 < length p.steps
-  pub steps_fit : AllByRecursion (λ s. number_of s < 2 ^ 16) p.steps
+  pub steps_fit : AllByRecursion (λ s. step_number s < 2 ^ 16) p.steps
   pub short : length (write_schedule p) ≤ MAX_BYTES
 
 -- a number is read from the one text that writes it

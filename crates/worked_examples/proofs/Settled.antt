@@ -9,11 +9,11 @@ use Rattle.protocol.specs.Calls.{open_refusal}
 use Rattle.shed_core.specs.declared.shed.Shed.{Shed}
 use Rattle.shed_core.specs.declared.buffers.Buffers.{Buffers}
 use Rattle.conduct.specs.Conduct.{Conducted}
-use Rattle.worked_examples.specs.Calls.{buffers, values, run, told, book_words}
+use Rattle.worked_examples.specs.Calls.{buffers, values, run, run_outcomes, book_words}
 use Rattle.worked_examples.proofs.Computed.{a_run, last_cells}
 
 pub record Settled (left : Buffers State Letter) (outcomes : List (Option Refusal)) : Type 0 where
-  pub tells : outcomes ≡ told
+  pub tells : outcomes ≡ run_outcomes
   pub states : left.states.now ≡ record { value = 7; hull = Some 7 } ∷ record { value = 7; hull = Some 7 } ∷ []
   pub book : left.book.now ≡ book_words
 

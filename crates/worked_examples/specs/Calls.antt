@@ -35,13 +35,13 @@ run =
     Send 0 ∷ Send 1 ∷ Deliver 0 ∷ Deliver 2 ∷ Turn 0 ∷ Send 0 ∷ Deliver 3 ∷ Deliver 0 ∷
     Turn 1 ∷ Send 1 ∷ Deliver 2 ∷ Deliver 3 ∷ Turn 0 ∷ Deliver 2 ∷ Turn 1 ∷ Deliver 0 ∷ []
 
-abbrev pub told : List (Option Refusal)
-told =
+abbrev pub run_outcomes : List (Option Refusal)
+run_outcomes =
     None ∷ None ∷ None ∷ None ∷ None ∷ None ∷ None ∷ Some HoldsLetter ∷
     None ∷ None ∷ None ∷ None ∷ None ∷ None ∷ None ∷ Some NotListening ∷ []
 
-abbrev pub settled : List (Option ℕ)
-settled = Some 7 ∷ Some 7 ∷ []
+abbrev pub run_hulls : List (Option ℕ)
+run_hulls = Some 7 ∷ Some 7 ∷ []
 
 -- the four entries, and what is left of the book
 abbrev pub entries : List ℕ
@@ -51,10 +51,10 @@ abbrev pub book_words : List ℕ
 book_words = entries ++ (0 ∷ 0 ∷ [])
 
 pub record RunExample : Type 0 where
-  pub refused : refusals third begin run ≡ told
-  pub hulls : map (λ s. s.hull) (after third begin run).states ≡ settled
+  pub refused : refusals third begin run ≡ run_outcomes
+  pub hulls : map (λ s. s.hull) (after third begin run).states ≡ run_hulls
   pub book : (after third begin run).book ≡ book_words
-  pub triples : map entry (tally third values start run told).triples ≡ entries
+  pub triples : map entry (tally third values start run run_outcomes).triples ≡ entries
 
 -- ---- fates
 abbrev pub fate_after : List Step → ℕ → Result Fate Refusal

@@ -33,8 +33,8 @@ pub record ThirdExamples : Type 0 where
 abbrev pub first_state : LastState
 first_state = last.first 4 0 5
 
-abbrev pub stamped : ℕ → ℕ → Option LastLetter
-stamped v x = Some (record { value = v; stamp = x })
+abbrev pub stamped_letter : ℕ → ℕ → Option LastLetter
+stamped_letter v x = Some (record { value = v; stamp = x })
 
 abbrev pub last_hears : List (Option LastLetter) → LastState
 last_hears m = last.next 4 0 0 first_state m
@@ -49,12 +49,12 @@ last_states = first_state ∷ votes_for 5 ∷ votes_for 200 ∷ []
 
 -- what the two numbers unpack to: the last stamp, and one more
 abbrev pub unpacked : List (Option LastLetter)
-unpacked = stamped 300 1024 ∷ None ∷ []
+unpacked = stamped_letter 300 1024 ∷ None ∷ []
 
 pub record LastExamples : Type 0 where
   pub rounds :
-      last_hears (stamped 5 0 ∷ stamped 6 0 ∷ None ∷ None ∷ []) ∷ last_hears (stamped 5 0 ∷ stamped 6 0 ∷ None ∷ stamped 7 0 ∷ []) ∷
-      last_hears (stamped 300 1 ∷ stamped 200 2 ∷ stamped 100 2 ∷ None ∷ []) ∷ [] ≡ last_states
+      last_hears (stamped_letter 5 0 ∷ stamped_letter 6 0 ∷ None ∷ None ∷ []) ∷ last_hears (stamped_letter 5 0 ∷ stamped_letter 6 0 ∷ None ∷ stamped_letter 7 0 ∷ []) ∷
+      last_hears (stamped_letter 300 1 ∷ stamped_letter 200 2 ∷ stamped_letter 100 2 ∷ None ∷ []) ∷ [] ≡ last_states
   -- whatever two or three letters they are, and whatever the state
   pub any_two_of_four : (s : LastState) (m : List (Option LastLetter)) → length m ≡ 4 → last_heard m ≡ 2 → last.next 4 0 0 s m ≡ s
   pub any_three_of_four : (s : LastState) (m : List (Option LastLetter)) → length m ≡ 4 → last_heard m ≡ 3 → (last.next 4 0 0 s m).committed ≡ true

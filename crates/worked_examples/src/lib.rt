@@ -5,7 +5,7 @@
 ghost use Rattle.std.specs.Prelude.{◌≡◌, [], ◌∷◌, Some, map};
 ghost use Rattle.worked_examples.specs.Rules.{ThirdExamples, LastExamples, LastRuns, third_states, last_states, unpacked};
 ghost use Rattle.worked_examples.specs.Words.{WordExamples, words};
-ghost use Rattle.worked_examples.specs.Calls.{CallExamples, told, settled, book_words};
+ghost use Rattle.worked_examples.specs.Calls.{CallExamples, run_outcomes, run_hulls, book_words};
 ghost use Rattle.worked_examples.specs.Texts.{TextExamples, IsPlanned, two_steps_plan};
 ghost use Rattle.worked_examples.specs.Numbers.{ProgramWords};
 
@@ -113,8 +113,8 @@ pub struct RunOutcome {
 /// Two stations that open with 9 and 7 under OneThirdRule and settle 7: the eighth step finds a station that holds a letter,
 /// and the last one a fresh station.
 pub fn two_stations() -> RunOutcome
-    ensures refusals { result.refusals ≡ told }
-    ensures hulls { result.hulls ≡ settled }
+    ensures refusals { result.refusals ≡ run_outcomes }
+    ensures hulls { result.hulls ≡ run_hulls }
     ensures book { result.book ≡ book_words }
     ensures examples { CallExamples }
 {
