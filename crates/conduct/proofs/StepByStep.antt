@@ -1,7 +1,7 @@
 -- One step of a list of calls, and the next.
 use Rattle.std.proofs.Common.{◌≡◌, ℕ, suc, ◌+◌, ◌<◌, ◌≤◌, List, [], ◌∷◌, length, get_or, drop, set, Option, Result, sym, ap, ◌∙◌, add-one}
 use Rattle.std.specs.Result.{result_err}
-use Rattle.std.proofs.lemmas.List.{at_drop_more, at_drop_all, set_past}
+use Rattle.std.proofs.lemmas.List.{at_drop_more, at_drop_all}
 use Rattle.rules.specs.Rule.{Behaviour}
 use Rattle.lists.specs.Lists.{put}
 use Rattle.protocol.specs.declared.refusal.Refusal.{Refusal}

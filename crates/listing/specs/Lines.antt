@@ -7,18 +7,17 @@ use Rattle.protocol.specs.declared.refusal.Refusal.{Refusal}
 use Rattle.protocol.specs.Refusals.{refusal_number}
 use Rattle.schedule_text.specs.declared.types.Fault.{Fault}
 use Rattle.schedule_text.specs.Faults.{fault_number, fault_line}
-use Rattle.listing.specs.declared.line.TheConstants.{CELLS}
 use Rattle.listing.specs.declared.line.Line.{Line}
 
--- ---- a line of cells
+-- ---- a line of 64 cells
 -- its text, without the blanks after it
 abbrev pub line_text : Line → List ℕ
 line_text line = take line.filled line.cells
 
 -- the cells hold the text, and blanks after it
 pub record HoldsText (line : Line) (text : List ℕ) : Type 0 where
-  pub fits : length text ≤ CELLS
-  pub cells : line.cells ≡ text ++ replicate (CELLS - length text) 32
+  pub fits : length text ≤ 64
+  pub cells : line.cells ≡ text ++ replicate (64 - length text) 32
   pub length_is : line.filled ≡ length text
 
 -- ---- the lines
