@@ -217,13 +217,13 @@ def check_numbers():
         wrong("docs/SCHEDULE.md", 0, "the faults are not those of the table of numbers")
 
 
-COUNTS = re.compile(r"(<!-- counted -->\n).*?(\n<!-- /counted -->)", re.S)
+COUNTS = re.compile(r"(<!-- counted -->\n).*?(<!-- /counted -->)", re.S)
 
 
 def check_counts(write):
     page = pathlib.Path("docs/MAINTAINING.md")
     text = page.read_text("utf-8")
-    fresh = COUNTS.sub(lambda m: m.group(1) + counted() + m.group(2), text)
+    fresh = COUNTS.sub(lambda m: m.group(1) + counted() + "\n" + m.group(2), text)
     if write:
         page.write_text(fresh, "utf-8")
     elif fresh != text or not COUNTS.search(text):
@@ -293,7 +293,9 @@ def check_promises():
     """Each public function stands among the promises; a rule's do as the methods of the trait."""
     promises = set(n for tick in ticks(pathlib.Path("docs/PROMISES.md").read_text("utf-8")) for n in names_in(tick))
     reference = pathlib.Path("docs/REFERENCE.md").read_text("utf-8")
-    for name, code in re.findall(r"^\*\*`([\w:]+)`\*\*.*\n\n```rust\n(.*?)```", reference, re.M | re.S):
+    for entry in re.split(r"^(?=\*\*`)", reference, flags=re.M):
+        name = "".join(re.findall(r"\A\*\*`([\w:]+)`\*\*", entry))
+        code = "".join(re.findall(r"^```rust\n(.*?)^```", entry, re.M | re.S)[:1])
         if re.search(r"\bfn ", code) and not name.startswith("Rule::") and name.split("::")[-1] not in promises:
             wrong("docs/PROMISES.md", 0, f"{name} is not told")
 

@@ -34,6 +34,23 @@ def lines_of(path):
     return path.read_text("utf-8").split("\n")
 
 
+def joined(comment):
+    """The lines of a comment as one text; a list keeps its lines, each point with what is indented below it."""
+    text = ""
+    listed = False
+    for line in comment:
+        bare = line.strip()
+        if bare.startswith("- "):
+            text += ("\n" if listed else "\n\n") + bare
+            listed = True
+        elif listed and not line.startswith("  "):
+            text += "\n\n" + bare
+            listed = False
+        else:
+            text += (" " if text and bare else "") + bare
+    return text
+
+
 def comment_above(lines, at):
     """The comment directly above a line, past attributes, as one text."""
     while at > 0 and lines[at - 1].strip().startswith("#"):
@@ -41,8 +58,8 @@ def comment_above(lines, at):
     found = []
     while at > 0 and re.match(r"\s*//", lines[at - 1]):
         at -= 1
-        found.insert(0, lines[at].strip().lstrip("/!").strip())
-    return " ".join(found)
+        found.insert(0, re.sub(r"^//[/!]? ?", "", lines[at].strip()))
+    return joined(found)
 
 
 def head_comment(lines):
@@ -140,7 +157,10 @@ def file_entries(path, public, types):
                 code = signature(lines, at) + ("".join(["\n{\n", "\n".join(inner), "\n}"]).replace("\n{", " {", 1) if inner else "")
                 found += entry(name, comment_above(lines, at), code)
         elif indent == "    " and owner and (shown or in_trait) and kind in ("fn", "const", "type", "ghost"):
-            found += entry(f"{owner}::{name}", comment_above(lines, at), signature(lines, at))
+            note = comment_above(lines, at)
+            if kind == "ghost":
+                note = f"(for the prover) {note}".rstrip()
+            found += entry(f"{owner}::{name}", note, signature(lines, at))
     return found
 
 
