@@ -5,6 +5,7 @@ use mathlib.Core.Path.{fun_ext}
 use Rattle.std.specs.Result.{result_err}
 use Rattle.std.proofs.lemmas.Bool.{leb-false, cases_eq, ltb-false, eqb-true, eq-eqb, ne_eqb, le-ltb, false≢true, and_parts, not-true, or_left}
 use Rattle.std.proofs.lemmas.Bool.{or_right, and_from}
+use Rattle.stations.specs.declared.TheConstants.{STATIONS}
 use Rattle.stations.specs.Stations.{contains}
 use Rattle.stations.proofs.Members.{within_more, contains_new, contains_old}
 use Rattle.rules.specs.Rule.{Behaviour, Laws, Ranges, lockstep}
@@ -65,7 +66,7 @@ says t s p r q ep er eq h =
 module _ {S L : Type 0} (R : Behaviour S L) (values : List ℕ) (B : ℕ) (w : World S L) (t : Tally) (i : Inv R values B w t)
     (letters : letter_cells w.n ≤ length w.letters) (s : Slip) (l : L) (to : s.receiver < length values)
     (b : Brought R values (heard_in t.triples) t.rounds (Some l) s.sender s.round s.receiver)
-    (few : length values ≤ 16) where
+    (few : length values ≤ STATIONS) where
   abbrev f : Frame L
   f = (s.sender, s.receiver, s.round, l)
 
@@ -106,7 +107,7 @@ module _ {S L : Type 0} (R : Behaviour S L) (values : List ℕ) (B : ℕ) (w : W
       let x : ℕ = s.sender in
       let now : s.round ≡ t.rounds s.receiver = h ∙ at.round in
       let hx : x < row_cells w.n = omega (arith, b.sender) in
-      let inside : x < 16 = omega (arith, b.sender, few) in
+      let inside : x < STATIONS = omega (arith, b.sender, few) in
       station_changed R values B w t i s.receiver (hearing old x)
       (set w.letters (letter_cell w.n s.receiver x) l) (noting t s) to notes_apart
       (λ p q e hq. cell_kept w.letters w.n s.receiver x l hx p q hq (λ z _. e z)) refl (λ _. record {
@@ -160,7 +161,7 @@ module _ {S L : Type 0} (R : Behaviour S L) (values : List ℕ) (B : ℕ) (w : W
 
 module _ {S L : Type 0} (R : Behaviour S L) {letter_fits : L → Bool} (laws : Laws R letter_fits) (ranges : Ranges R letter_fits) (values : List ℕ)
     (small : (p : ℕ) → p < length values → get_or values p 0 < 2 ^ 16)
-    (few : length values ≤ 16) (B : ℕ) (w : World S L) (t : Tally) (i : Inv R values B w t) (k : ℕ) where
+    (few : length values ≤ STATIONS) (B : ℕ) (w : World S L) (t : Tally) (i : Inv R values B w t) (k : ℕ) where
   abbrev s : Slip
   s = get_or t.slips k nowhere
 

@@ -3,6 +3,7 @@ use Rattle.std.proofs.Common.{◌≡◌, ℕ, ◌-◌, ◌^◌, ◌<◌, ◌≤�
 use Rattle.std.proofs.Common.{ap, ◌∙◌, arith}
 use mathlib.Core.Path.{fun_ext}
 use Rattle.std.proofs.lemmas.List.{length-append, length-map, length-replicate}
+use Rattle.stations.specs.declared.TheConstants.{STATIONS}
 use Rattle.rules.specs.Rule.{Behaviour, Laws, Ranges, Heard, Opening, lockstep}
 use Rattle.frames.specs.Book.{book_heard}
 use Rattle.protocol.specs.declared.refusal.Refusal.{Refusal}
@@ -48,7 +49,7 @@ module _ {S L : Type 0} (R : Behaviour S L) (values : List ℕ) where
 
 module _ {S L : Type 0} (R : Behaviour S L) {letter_fits : L → Bool} (laws : Laws R letter_fits) (ranges : Ranges R letter_fits) (values : List ℕ)
     (small : (p : ℕ) → p < length values → get_or values p 0 < 2 ^ 16)
-    (few : length values ≤ 16) (B : ℕ) where
+    (few : length values ≤ STATIONS) (B : ℕ) where
   follow : (w : World S L) (t : Tally) → Inv R values B w t → (c : Step) → Follows R values B (step R w c).0 (step R w c).1 t (tally_accepted R values t c)
   follow w t i (Send p) = sends R values few B w t i p
   follow w t i (Deliver k) = delivered R laws ranges values small few B w t i k
@@ -79,7 +80,7 @@ module _ {S L : Type 0} (R : Behaviour S L) {letter_fits : L → Bool} (laws : L
 pub guaranteed : {S L : Type 0} (R : Behaviour S L) → Guaranteed R
 guaranteed {S} {L} R letter_fits face laws ranges new values small fine calls =
     let o : Opens R new values = opens R face new values fine in
-    let few : length values ≤ 16 = omega (arith, o.few, face.most_few) in
+    let few : length values ≤ STATIONS = omega (arith, o.few, face.most_few) in
     let B : ℕ = length new.book in
     let w : World S L = opened R new values in
     let opening : Opening R values = record { some = o.some; not_too_many = o.few; small = small } in

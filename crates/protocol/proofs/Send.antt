@@ -3,6 +3,7 @@ use Rattle.std.proofs.Common.{◌≡◌, ℕ, zero, suc, ◌+◌, ◌-◌, ◌<�
 use Rattle.std.proofs.Common.{None, Option, sym, refl, ap, ◌∙◌, subst, inl, inr, arith}
 use Rattle.std.proofs.lemmas.List.{length-append, get_or_append_left, get_or-append_right}
 use Rattle.std.proofs.lemmas.Bool.{cases_eq, cases_lt, leb-false, ltb-false, eq-eqb, ne_eqb, true≢false, false≢true, and_right}
+use Rattle.stations.specs.declared.TheConstants.{STATIONS}
 use Rattle.stations.specs.declared.StationSet.{StationSet}
 use Rattle.stations.specs.Stations.{contains, with_station}
 use Rattle.stations.proofs.Members.{within_more, contains_new, contains_old}
@@ -114,7 +115,7 @@ module _ {S L : Type 0} (R : Behaviour S L) (values : List ℕ) (B : ℕ) (w : W
       ])
 
 -- ---- a fresh station begins to listen
-same_note : (x r k q s : ℕ) → x ≡ k → (heard : StationSet) → s < 16 → ((q : ℕ) → contains heard q ≡ false) →
+same_note : (x r k q s : ℕ) → x ≡ k → (heard : StationSet) → s < STATIONS → ((q : ℕ) → contains heard q ≡ false) →
     ((eqb r k && contains heard q) || (eqb x r && eqb s q)) ≡ ((eqb r k && contains (with_station heard s) q) || false)
 same_note x r k q s e heard h silent = elim (cases_eq q s) [
   | inl eq ↦ elim (cases_eq r k) [
@@ -125,7 +126,7 @@ same_note x r k q s e heard h silent = elim (cases_eq q s) [
       (ap (λ y. (eqb r k && false) || y) (and_right (eqb x r) false refl))
 ]
 
-module _ {S L : Type 0} (R : Behaviour S L) (values : List ℕ) (few : length values ≤ 16) (B : ℕ) (w : World S L) (t : Tally) (i : Inv R values B w t)
+module _ {S L : Type 0} (R : Behaviour S L) (values : List ℕ) (few : length values ≤ STATIONS) (B : ℕ) (w : World S L) (t : Tally) (i : Inv R values B w t)
     (letters : letter_cells w.n ≤ length w.letters)
     (p : ℕ) (h : p < length values) (up : is_down (station w p).stand ≡ false) (fresh : is_fresh (station w p).stand ≡ true) where
   abbrev old : StationRecord
@@ -159,7 +160,7 @@ module _ {S L : Type 0} (R : Behaviour S L) (values : List ℕ) (few : length va
       let n_is : w.n ≡ length values = i.n_is in
       let b = a.holding x e in
       let hx : x.sender < row_cells w.n = omega (arith, b.sender) in
-      let inside : x.sender < 16 = omega (arith, b.sender, few) in
+      let inside : x.sender < STATIONS = omega (arith, b.sender, few) in
       let l = something_at w.letters (held_cell w.n p) (omega (arith, letters, cell_within w.n p w.n (omega arith) (omega arith))) in
       let c : ℕ = letter_cell w.n p x.sender in
       subst (λ o. Inv R values B (with_letters R
@@ -187,7 +188,7 @@ module _ {S L : Type 0} (R : Behaviour S L) (values : List ℕ) (few : length va
       let d = held_for_some old.hold old.round q e in
       subst (λ y. Inv R values B (inner y) t) d.2 (inwards d.0 d.1 d.3)
 
-module _ {S L : Type 0} (R : Behaviour S L) (values : List ℕ) (few : length values ≤ 16) (B : ℕ) (w : World S L) (t : Tally) (i : Inv R values B w t) where
+module _ {S L : Type 0} (R : Behaviour S L) (values : List ℕ) (few : length values ≤ STATIONS) (B : ℕ) (w : World S L) (t : Tally) (i : Inv R values B w t) where
   pub sends : (p : ℕ) → Follows R values B (step R w (Send p)).0 (step R w (Send p)).1 t (tally_accepted R values t (Send p))
   unfolding step tally_accepted
   sends p = attempted R values B w (sent R w p) (send_refusal R w p) (length (frames_of R w p)) t (tally_accepted R values t (Send p)) i (λ fine.

@@ -3,6 +3,7 @@ use Rattle.std.proofs.Common.{◌≡◌, ℕ, ◌<◌, ◌≤◌, false, ◌&&�
 use native.Mathlib.Nat.{sub-zero}
 use Rattle.std.proofs.lemmas.List.{get_or-replicate}
 use Rattle.std.proofs.lemmas.Bool.{or_parts, ltb-false, eqb-false, false≢true, and_right, or_from}
+use Rattle.stations.specs.declared.TheConstants.{STATIONS}
 use Rattle.stations.proofs.Members.{contains_none}
 use Rattle.rules.specs.Rule.{Behaviour, Interface, lockstep}
 use Rattle.protocol.specs.Records.{blank}
@@ -37,7 +38,7 @@ module _ {S L : Type 0} (R : Behaviour S L) (face : Interface R) (w : World S L)
   seat : (p : ℕ) → p < length values → Seated R values (opened R w values) start p
   unfolding lockstep
   seat p h =
-      let s_is : station (opened R w values) p ≡ blank = get_or-replicate 16 p blank blank (omega (arith, face.most_few, opens.few)) in
+      let s_is : station (opened R w values) p ≡ blank = get_or-replicate STATIONS p blank blank (omega (arith, face.most_few, opens.few)) in
       let x_is : state_of R (opened R w values) p ≡ R.first (length values) p (get_or values p 0) =
       get_or_written (length values) (λ q. R.first (length values) q (get_or values q 0)) w.states p (R.first (length values) p 0) h in
       rw s_is (record {

@@ -1,6 +1,7 @@
 -- The records of a shed stay sound when one of them changes.
 use Rattle.std.proofs.Common.{◌≡◌, ◌∙◌, ℕ, zero, suc, ◌+◌, ◌<◌, ◌≤◌, refl, List, [], ◌∷◌, get_or, set, replicate, sym, subst, inl, inr, arith}
 use Rattle.std.proofs.lemmas.Bool.{cases_eq, false≢true}
+use Rattle.stations.specs.declared.TheConstants.{STATIONS}
 use Rattle.rules.specs.declared.TheConstants.{LAST_ROUND}
 use Rattle.lists.proofs.Tables.{get_or_replicate_all}
 use Rattle.lists.proofs.Options.{none_some, same_some}
@@ -25,7 +26,7 @@ changed_sound n p rs after r changed old new = subst (AllSound n) (sym changed) 
 
 -- ---- the record of a station
 module _ (n p : ℕ) (there : p < n) (s : StationRecord) (old : Sound n p s) where
-  pub hearing_sound : n ≤ 16 → (q : ℕ) → q < n → Sound n p (hearing s q)
+  pub hearing_sound : n ≤ STATIONS → (q : ℕ) → q < n → Sound n p (hearing s q)
   hearing_sound few q h = record {
     round = old.round;
     heard = λ x e. elim (cases_eq x q) [ inl is ↦ rw is h | inr other ↦ old.heard x (sym (contains_old s.heard q (omega arith) x other) ∙ e) ];
@@ -71,5 +72,5 @@ blank_sound n p = record {
   past = λ l. refl;
 }
 
-pub blanks_sound : (n : ℕ) (records : List StationRecord) → records ≡ replicate 16 blank → AllSound n records
-blanks_sound n records e p = rw (e, get_or_replicate_all 16 p blank) (blank_sound n p)
+pub blanks_sound : (n : ℕ) (records : List StationRecord) → records ≡ replicate STATIONS blank → AllSound n records
+blanks_sound n records e p = rw (e, get_or_replicate_all STATIONS p blank) (blank_sound n p)

@@ -9,19 +9,20 @@ use Rattle.std.proofs.lemmas.Nat.Bits.{bit_at-zero, bit_at-lt, bit_at_or, bit_at
 use Rattle.std.proofs.lemmas.Nat.Bits.{bit_at_cat_high}
 use Rattle.std.proofs.Math.Bool.{or-false}
 use Rattle.std.proofs.lemmas.Bool.{lt-ltb, le-ltb, cases_lt, cases_eq, eq-eqb, ne_eqb, or_right, and_from, and_left}
+use Rattle.stations.specs.declared.TheConstants.{STATIONS}
 use Rattle.lists.proofs.Counting.{count, count_by_tabulate}
 use Rattle.stations.specs.declared.StationSet.{StationSet}
 use Rattle.stations.specs.Stations.{contains, none, with_station, bits_of, set_of, size, Within}
 
-contains_at : (s : StationSet) (q : ℕ) → q < 16 → contains s q ≡ eqb (bit_at s.bits (15 - q)) 1
-contains_at s q h = rw (lt-ltb q 16 h)
+contains_at : (s : StationSet) (q : ℕ) → q < STATIONS → contains s q ≡ eqb (bit_at s.bits (15 - q)) 1
+contains_at s q h = rw (lt-ltb q STATIONS h)
 
-pub contains_past : (s : StationSet) (q : ℕ) → 16 ≤ q → contains s q ≡ false
-contains_past s q h = rw (le-ltb q 16 h)
+pub contains_past : (s : StationSet) (q : ℕ) → STATIONS ≤ q → contains s q ≡ false
+contains_past s q h = rw (le-ltb q STATIONS h)
 
 -- ---- nobody
 pub contains_none : (q : ℕ) → contains none q ≡ false
-contains_none q = elim (cases_lt q 16) [
+contains_none q = elim (cases_lt q STATIONS) [
   | inl l ↦ contains_at none q l ∙ rw (bit_at-zero (15 - q))
   | inr g ↦ contains_past none q g
 ]
@@ -35,12 +36,12 @@ max_one (suc (suc b)) l = absurd (omega arith)
 max_zero : (b : ℕ) → max b 0 ≡ b
 max_zero b = omega arith
 
-module _ (s : StationSet) (p : ℕ) (h : p < 16) where
+module _ (s : StationSet) (p : ℕ) (h : p < STATIONS) where
   pub more_bits : with_station s p ≡ record { bits = bit_or s.bits (2 ^ (15 - p)) }
-  more_bits = rw (lt-ltb p 16 h)
+  more_bits = rw (lt-ltb p STATIONS h)
 
   pub within_more : Within s → Within (with_station s p)
-  within_more small = rw more_bits (or_lt 16 s.bits (2 ^ (15 - p)) small (pow_below (15 - p) 16 (omega arith)))
+  within_more small = rw more_bits (or_lt STATIONS s.bits (2 ^ (15 - p)) small (pow_below (15 - p) STATIONS (omega arith)))
 
   pub contains_new : contains (with_station s p) p ≡ true
   contains_new =
@@ -48,7 +49,7 @@ module _ (s : StationSet) (p : ℕ) (h : p < 16) where
       ∙ rw (bit_at_or s.bits (2 ^ (15 - p)) (15 - p), bit_at-pow_same (15 - p)) (max_one (bit_at s.bits (15 - p)) (bit_at-lt s.bits (15 - p))))
 
   pub contains_old : (q : ℕ) → (q ≡ p → ⊥) → contains (with_station s p) q ≡ contains s q
-  contains_old q apart = rw more_bits (elim (cases_lt q 16) [
+  contains_old q apart = rw more_bits (elim (cases_lt q STATIONS) [
     | inl l ↦
         contains_at (record { bits = bit_or s.bits (2 ^ (15 - p)) }) q l
         ∙ ap (λ b. eqb b 1) (bit_at_or s.bits (2 ^ (15 - p)) (15 - q)
@@ -58,10 +59,10 @@ module _ (s : StationSet) (p : ℕ) (h : p < 16) where
   ])
 
   -- the same, as one test
-  pub contains_more : (q : ℕ) → contains (with_station s p) q ≡ (contains s q || (eqb q p && ltb q 16))
+  pub contains_more : (q : ℕ) → contains (with_station s p) q ≡ (contains s q || (eqb q p && ltb q STATIONS))
   contains_more q = elim (cases_eq q p) [
-    | inl e ↦ rw (e, contains_new) (sym (or_right (contains s p) (eqb p p && ltb p 16) (and_from _ _ (eq-eqb p p refl) (lt-ltb p 16 h))))
-    | inr e ↦ contains_old q e ∙ sym (or-false (contains s q)) ∙ ap (λ b. contains s q || b) (sym (and_left (eqb q p) (ltb q 16) (ne_eqb q p e)))
+    | inl e ↦ rw (e, contains_new) (sym (or_right (contains s p) (eqb p p && ltb p STATIONS) (and_from _ _ (eq-eqb p p refl) (lt-ltb p STATIONS h))))
+    | inr e ↦ contains_old q e ∙ sym (or-false (contains s q)) ∙ ap (λ b. contains s q || b) (sym (and_left (eqb q p) (ltb q STATIONS) (ne_eqb q p e)))
   ]
 
 -- ---- the set that a test makes
@@ -96,19 +97,19 @@ flag true = refl
 flag false = refl
 
 pub within_set : (f : ℕ → Bool) → Within (set_of f)
-within_set f = bits_below 16 f
+within_set f = bits_below STATIONS f
 
-pub contains_set : (f : ℕ → Bool) (q : ℕ) → q < 16 → contains (set_of f) q ≡ f q
-contains_set f q h = rw (lt-ltb q 16 h, bit_of 16 f q (15 - q) (omega arith)) (flag (f q))
+pub contains_set : (f : ℕ → Bool) (q : ℕ) → q < STATIONS → contains (set_of f) q ≡ f q
+contains_set f q h = rw (lt-ltb q STATIONS h, bit_of STATIONS f q (15 - q) (omega arith)) (flag (f q))
 
 -- ---- the members make up the set
-pub same_members : (s t : StationSet) → Within s → Within t → ((q : ℕ) → q < 16 → contains s q ≡ contains t q) → s ≡ t
+pub same_members : (s t : StationSet) → Within s → Within t → ((q : ℕ) → q < STATIONS → contains s q ≡ contains t q) → s ≡ t
 same_members s t small small' same =
-    let bits : s.bits ≡ t.bits = same_from_bits_below 16 s.bits t.bits small small' (λ i l.
+    let bits : s.bits ≡ t.bits = same_from_bits_below STATIONS s.bits t.bits small small' (λ i l.
     let q : ℕ = 15 - i in
-    let h : q < 16 = omega arith in
+    let h : q < STATIONS = omega arith in
     let place : 15 - q ≡ i = omega arith in
-    one (bit_at s.bits i) (bit_at t.bits i) (bit_at-lt s.bits i) (bit_at-lt t.bits i) (rw (lt-ltb q 16 h, place) at (same q h))) in
+    one (bit_at s.bits i) (bit_at t.bits i) (bit_at-lt s.bits i) (bit_at-lt t.bits i) (rw (lt-ltb q STATIONS h, place) at (same q h))) in
     ap (λ b. record { bits = b }) bits
   where
     one : (a b : ℕ) → a < 2 → b < 2 → eqb a 1 ≡ eqb b 1 → a ≡ b
@@ -138,7 +139,7 @@ counted (suc n) b f h is =
     ap ones whole ∙ ones_cat n a r small ∙ rw (rest, top, ones_below_two a two)
 
 pub size_bits : (s : StationSet) → Within s → size s ≡ ones s.bits
-size_bits s small = count_by_tabulate (contains s) 16 (λ q. q) ∙ sym (counted 16 s.bits (contains s) small (λ q j e.
-    let h : q < 16 = omega arith in
+size_bits s small = count_by_tabulate (contains s) STATIONS (λ q. q) ∙ sym (counted STATIONS s.bits (contains s) small (λ q j e.
+    let h : q < STATIONS = omega arith in
     let place : 15 - q ≡ j = omega arith in
-    rw (lt-ltb q 16 h, place)))
+    rw (lt-ltb q STATIONS h, place)))

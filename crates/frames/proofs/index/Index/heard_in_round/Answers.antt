@@ -1,4 +1,6 @@
 use Rattle.std.proofs.Common.{rules, ◌+◌, ◌*◌, get_or, sym, ◌∙◌, arith}
+use Rattle.frames.specs.declared.TheConstants.{ROUNDS}
+use Rattle.stations.specs.declared.TheConstants.{STATIONS}
 use Rattle.lists.proofs.Made.{made_table}
 use Rattle.frames.specs.Book.{senders_in}
 use Rattle.frames.proofs.Indexed.{sets_indexed, sets_past}
@@ -11,5 +13,5 @@ pub returns : goal.returns
 returns c = λ book index.
     let words = c.args.self.now.words in
     let k = c.args.round in
-    made_table _ _ 16 (λ p. senders_in (get_or words (p * 4096 + k) 0)) (λ p set q l called. search rules) _ c.from_fn.ensures.items
+    made_table _ _ STATIONS (λ p. senders_in (get_or words (p * ROUNDS + k) 0)) (λ p set q l called. search rules) _ c.from_fn.ensures.items
     ∙ sets_indexed words book k index (omega arith)
