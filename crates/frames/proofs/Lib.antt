@@ -3,3 +3,4 @@ pub mod Entries
 pub mod Sets
 pub mod Indexed
 pub mod Added
+pub mod Laws

@@ -2,3 +2,4 @@ pub mod Frame
 pub mod Pool
 pub mod Book
 pub mod Index
+pub mod Laws

@@ -5,7 +5,7 @@ use Rattle.std.proofs.lemmas.Bool.{cases_lt, false≢true}
 use Rattle.rules.specs.declared.TheConstants.{LAST_ROUND}
 use Rattle.rules.specs.Rule.{Opening, Heard, lockstep, Agreement, Validity}
 use Rattle.lists.proofs.Options.{none_some}
-use Rattle.rules.proofs.Runs.{hull_stays}
+use Rattle.rules.proofs.Runs.{run_laws}
 use Rattle.last_rule.specs.declared.TheConstants.{LAST_STAMP}
 use Rattle.last_rule.specs.declared.State.{State}
 use Rattle.last_rule.specs.Last.{last, phase}
@@ -100,7 +100,7 @@ module _ (values : List ℕ) (opening : Opening last values) (H : Heard) where
   -- ---- hulls
   -- a hull that is shown is locked at the start of every later phase
   shown_locked : (p i f a : ℕ) → p < n → i ≤ 4 * f → (run i p).hull ≡ Some a → Locked n (run (4 * f)) a
-  shown_locked p i f a h le e = (at_start f).sound.hulls p a h (hull_stays last values stable H p a i (4 * f) le e)
+  shown_locked p i f a h le e = (at_start f).sound.hulls p a h ((run_laws last).hull_stays values stable H p a i (4 * f) le e)
 
 pub agreement : Agreement last
 agreement values opening H p q i j a b hp hq x y =

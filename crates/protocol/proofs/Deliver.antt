@@ -7,7 +7,7 @@ use Rattle.std.proofs.lemmas.Bool.{leb-false, cases_eq, ltb-false, eqb-true, eq-
 use Rattle.std.proofs.lemmas.Bool.{or_right, and_from}
 use Rattle.stations.specs.declared.TheConstants.{STATIONS}
 use Rattle.stations.specs.Stations.{contains}
-use Rattle.stations.proofs.Members.{within_more, contains_new, contains_old}
+use Rattle.stations.proofs.Laws.{set_laws}
 use Rattle.rules.specs.Rule.{Behaviour, Laws, Ranges, lockstep}
 use Rattle.frames.specs.Frame.{Frame}
 use Rattle.protocol.specs.declared.types.StationRecord.{StationRecord}
@@ -23,7 +23,7 @@ use Rattle.protocol.specs.Tally.{Tally, Slip, heard_in, nowhere, swap_out, tally
 use Rattle.protocol.proofs.Rows.{cell_written, cell_kept}
 use Rattle.frames.proofs.RoundTrip.{reads_back}
 use Rattle.lists.proofs.Options.{none_some, same_some}
-use Rattle.rules.proofs.Runs.{run_fits}
+use Rattle.rules.proofs.Runs.{run_laws}
 use Rattle.protocol.proofs.Outcomes.{none_holds, deliver_by}
 use Rattle.protocol.proofs.Judgements.{Taking, Judged, judged_so}
 use Rattle.protocol.proofs.Invariant.{Inv, Brought, Carry, Seated, Matched, matched, Follows}
@@ -111,20 +111,20 @@ module _ {S L : Type 0} (R : Behaviour S L) (values : List ℕ) (B : ℕ) (w : W
       station_changed R values B w t i s.receiver (hearing old x)
       (set w.letters (letter_cell w.n s.receiver x) l) (noting t s) to notes_apart
       (λ p q e hq. cell_kept w.letters w.n s.receiver x l hx p q hq (λ z _. e z)) refl (λ _. record {
-        within = within_more old.heard x inside a.within;
+        within = set_laws.within_more old.heard x inside a.within;
         noted = λ r q g. elim (cases_eq q x) [
           | inl eq ↦ elim (cases_eq r (t.rounds s.receiver)) [
             | inl er ↦ rw (eq, er) (or_right _ _ (says t s s.receiver (t.rounds s.receiver) x refl now refl (omega (arith, now)))
-                ∙ sym (or_left _ _ (and_from _ _ (eq-eqb (t.rounds s.receiver) (t.rounds s.receiver) refl) (contains_new old.heard x inside))))
+                ∙ sym (or_left _ _ (and_from _ _ (eq-eqb (t.rounds s.receiver) (t.rounds s.receiver) refl) (set_laws.contains_new old.heard x inside))))
             | inr er ↦ absorbed _ _ (λ m. absurd (er (sym (said t s s.receiver r q m).1 ∙ now))) ∙ a.noted r q g
                 ∙ rw (ne_eqb r (t.rounds s.receiver) er)
           ]
-          | inr eq ↦ absorbed _ _ (λ m. absurd (eq (sym (said t s s.receiver r q m).2))) ∙ a.noted r q g ∙ rw (contains_old old.heard x inside q eq)
+          | inr eq ↦ absorbed _ _ (λ m. absurd (eq (sym (said t s s.receiver r q m).2))) ∙ a.noted r q g ∙ rw (set_laws.contains_old old.heard x inside q eq)
         ];
         marked = λ q m. elim (cases_eq q x) [
           | inl eq ↦ rw (eq, cell_written w.letters w.n s.receiver x l hx letters here, ← now) b
           | inr eq ↦
-              let c = a.marked q (sym (contains_old old.heard x inside q eq) ∙ m) in
+              let c = a.marked q (sym (set_laws.contains_old old.heard x inside q eq) ∙ m) in
               rw (cell_kept w.letters w.n s.receiver x l hx s.receiver q (omega (arith, c.sender)) (λ _ z. eq z)) c
         ];
         holding = λ x y. absurd (none_some (sym taking.free ∙ y));
@@ -179,7 +179,7 @@ module _ {S L : Type 0} (R : Behaviour S L) {letter_fits : L → Bool} (laws : L
       let n_is : w.n ≡ length values = i.n_is in
       let fits : T (letter_fits c.letter) =
       ranges.sent_fits (length values) s.sender s.round s.receiver (lockstep R values (heard_in t.triples) s.round s.sender) c.letter
-      (run_fits R values ranges small (heard_in t.triples) s.round s.sender b.sender) (sym b.same) in
+      ((run_laws R).fits values letter_fits ranges small (heard_in t.triples) s.round s.sender b.sender) (sym b.same) in
       rw c.word_is (reads_back R laws w.n s.sender s.receiver s.round c.letter (omega arith) (omega (arith, b.sender)) (omega (arith, c.to))
       (omega (arith, b.begun, (i.seats s.sender b.sender).limit)) fits)
 

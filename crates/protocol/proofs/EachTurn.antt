@@ -7,7 +7,7 @@ use Rattle.std.proofs.lemmas.List.Sums.{sum_by-append}
 use Rattle.std.proofs.Math.Seq.{get_or-append_seam, take-append_seam}
 use Rattle.rules.specs.Rule.{Behaviour}
 use Rattle.frames.specs.Book.{station_in, round_in}
-use Rattle.frames.proofs.Entries.{entry_station, entry_round}
+use Rattle.frames.proofs.Laws.{book_laws}
 use Rattle.protocol.specs.declared.refusal.Refusal.{Refusal}
 use Rattle.protocol.specs.declared.types.Step.{Step}
 use Rattle.protocol.specs.declared.types.Step.TheVariants.{Send, Deliver, Drop, Repeat, Turn, Crash}
@@ -106,12 +106,12 @@ start_counts = record { rounds = λ p. refl; each = λ i h. absurd (omega arith)
 word_station : (ts : List Triple) (m i : ℕ) → Whole ts → i < length ts →
     station_in (get_or (map entry ts ++ replicate m 0) i 0) ≡ get_or (stations_of ts) i 0
 word_station [] m i h l = absurd (omega arith)
-word_station (t ∷ ts) m zero h l = entry_station t.station t.round t.heard h.1 h.0
+word_station (t ∷ ts) m zero h l = book_laws.station t.station t.round t.heard h.1 h.0
 word_station (t ∷ ts) m (suc i) h l = word_station ts m i h.2 (omega arith)
 
 word_round : (ts : List Triple) (m i : ℕ) → Whole ts → i < length ts → round_in (get_or (map entry ts ++ replicate m 0) i 0) ≡ get_or (rounds_of ts) i 0
 word_round [] m i h l = absurd (omega arith)
-word_round (t ∷ ts) m zero h l = entry_round t.station t.round t.heard h.1 h.0
+word_round (t ∷ ts) m zero h l = book_laws.round t.station t.round t.heard h.1 h.0
 word_round (t ∷ ts) m (suc i) h l = word_round ts m i h.2 (omega arith)
 
 -- the entries of a tally's triples are those of its turns

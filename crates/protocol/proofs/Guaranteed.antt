@@ -16,7 +16,8 @@ use Rattle.protocol.specs.Tally.{Tally, heard_in, start, tally, tally_accepted}
 use Rattle.protocol.specs.Guarantee.{Guaranteed, Sized, entry, accepted_turns, turns_by}
 use Rattle.protocol.proofs.Words.{book_agrees, entries_name}
 use Rattle.protocol.proofs.EachTurn.{Counts, stations_of, tally_turns, tally_counts, start_counts, entry_for_each}
-use Rattle.rules.proofs.Runs.{Known, hull_stays}
+use Rattle.rules.specs.Runs.{Known}
+use Rattle.rules.proofs.Runs.{run_laws}
 use Rattle.protocol.proofs.Invariant.{Inv, Grows, Follows}
 use Rattle.protocol.proofs.Start.{Opens, opens, started}
 use Rattle.protocol.proofs.Pool.{dropped, repeated}
@@ -122,6 +123,6 @@ guaranteed {S} {L} R letter_fits face laws ranges new values small fine calls =
           let g = r.1 (u.rounds p) p (omega arith) in
           let before : R.hull (lockstep R values (heard_in t.triples) (u.rounds p) p) ≡ Some h = rw g.1 (hull p h hp e) in
           let now : R.hull (lockstep R values (heard_in t.triples) (t.rounds p) p) ≡ Some h =
-          hull_stays R values laws.stable (heard_in t.triples) p h (u.rounds p) (t.rounds p) g.0 before in
+          (run_laws R).hull_stays values laws.stable (heard_in t.triples) p h (u.rounds p) (t.rounds p) g.0 before in
           ap (λ x. R.hull (state_of R x p)) (after_append R values w calls more) ∙ (ap R.hull (r.0.seats p hp).state ∙ now);
     }

@@ -20,7 +20,7 @@ use Rattle.protocol.specs.Refusals.{attempt}
 use Rattle.protocol.proofs.Outcomes.{attempt_by}
 use Rattle.protocol.specs.Tally.{Tally, Slip, Triple, heard_in, nowhere}
 use Rattle.protocol.specs.Guarantee.{entry}
-use Rattle.rules.proofs.Runs.{Known}
+use Rattle.rules.specs.Runs.{Known}
 use Rattle.protocol.proofs.Words.{Whole, Among}
 
 -- the note that a held letter is

@@ -7,6 +7,7 @@ use Rattle.protocol.specs.declared.refusal.Refusal.{Refusal}
 use Rattle.protocol.specs.declared.refusal.Refusal.TheVariants.{Shut, Unreadable}
 use Rattle.protocol.specs.declared.types.Fate.{Fate}
 use Rattle.protocol.specs.Refusals.{first_refusal, attempt}
+use Rattle.protocol.specs.Outcomes.{TestLaws, AttemptLaws}
 use Rattle.protocol.specs.World.{World, station}
 use Rattle.protocol.specs.Records.{judged}
 use Rattle.protocol.specs.Calls.{without_frame, received, settled, delivery, deliver_call, place_refusal, frame_at}
@@ -27,6 +28,9 @@ none_holds [] e i = refl
 none_holds (t ∷ ts) e zero = (passed t.0 t.1 (first_refusal ts) e).0
 none_holds (t ∷ ts) e (suc i) = none_holds ts (passed t.0 t.1 (first_refusal ts) e).1 i
 
+pub test_laws : TestLaws
+test_laws = record { none_holds = none_holds; refused_first = refused_first }
+
 -- ---- an attempt
 module _ {A W : Type 0} (w v : W) (a : A) where
   pub attempt_by :
@@ -35,13 +39,16 @@ module _ {A W : Type 0} (w v : W) (a : A) where
   attempt_by P None refused accepted = accepted refl
   attempt_by P (Some f) refused accepted = refused f refl
 
-  pub was_accepted : (o : Option Refusal) (x : A) → Ok x ≡ (attempt w o a v).0 → (o ≡ None) × (x ≡ a) × ((attempt w o a v).1 ≡ v)
+  was_accepted : (o : Option Refusal) (x : A) → Ok x ≡ (attempt w o a v).0 → (o ≡ None) × (x ≡ a) × ((attempt w o a v).1 ≡ v)
   was_accepted None x e = (refl, cc, refl)
   was_accepted (Some f) x e = absurd (let z : ◌≡◌ {A = ℕ} 0 1 = cc in omega arith)
 
-  pub was_refused : (o : Option Refusal) (f : Refusal) → Err f ≡ (attempt w o a v).0 → (o ≡ Some f) × ((attempt w o a v).1 ≡ w)
+  was_refused : (o : Option Refusal) (f : Refusal) → Err f ≡ (attempt w o a v).0 → (o ≡ Some f) × ((attempt w o a v).1 ≡ w)
   was_refused None f e = absurd (let z : ◌≡◌ {A = ℕ} 0 1 = cc in omega arith)
   was_refused (Some g) f e = let same : g ≡ f = cc in (rw same, refl)
+
+pub attempt_laws : {A W : Type 0} (w v : W) (a : A) → AttemptLaws w v a
+attempt_laws w v a = record { accepted = was_accepted w v a; refused = was_refused w v a }
 
 -- ---- a delivery
 module _ {S L : Type 0} (R : Behaviour S L) (w : World S L) (k : ℕ) (P : Result Fate Refusal × World S L → Type 0)

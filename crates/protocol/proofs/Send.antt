@@ -6,7 +6,7 @@ use Rattle.std.proofs.lemmas.Bool.{cases_eq, cases_lt, leb-false, ltb-false, eq-
 use Rattle.stations.specs.declared.TheConstants.{STATIONS}
 use Rattle.stations.specs.declared.StationSet.{StationSet}
 use Rattle.stations.specs.Stations.{contains, with_station}
-use Rattle.stations.proofs.Members.{within_more, contains_new, contains_old}
+use Rattle.stations.proofs.Laws.{set_laws}
 use Rattle.rules.specs.Rule.{Behaviour, lockstep}
 use Rattle.lists.specs.Lists.{put}
 use Rattle.frames.specs.Frame.{frame_word}
@@ -119,10 +119,10 @@ same_note : (x r k q s : ℕ) → x ≡ k → (heard : StationSet) → s < STATI
     ((eqb r k && contains heard q) || (eqb x r && eqb s q)) ≡ ((eqb r k && contains (with_station heard s) q) || false)
 same_note x r k q s e heard h silent = elim (cases_eq q s) [
   | inl eq ↦ elim (cases_eq r k) [
-    | inl er ↦ rw (e, er, eq, silent s, contains_new heard s h, eq-eqb k k refl, eq-eqb s s refl)
+    | inl er ↦ rw (e, er, eq, silent s, set_laws.contains_new heard s h, eq-eqb k k refl, eq-eqb s s refl)
     | inr er ↦ rw (e, ne_eqb r k er, ne_eqb k r (λ z. er (sym z)))
   ]
-  | inr eq ↦ rw (silent q, contains_old heard s h q eq, silent q, ne_eqb s q (λ z. eq (sym z)))
+  | inr eq ↦ rw (silent q, set_laws.contains_old heard s h q eq, silent q, ne_eqb s q (λ z. eq (sym z)))
       (ap (λ y. (eqb r k && false) || y) (and_right (eqb x r) false refl))
 ]
 
@@ -169,11 +169,11 @@ module _ {S L : Type 0} (R : Behaviour S L) (values : List ℕ) (few : length va
       (station_changed R values B w t i p (record old { stand = Listening; heard = with_station old.heard x.sender; hold = None })
       (set w.letters c l.0) t.notes h (λ p' r q e. refl)
       (λ p' q d hq. cell_kept w.letters w.n p x.sender l.0 hx p' q hq (λ z _. d z)) refl (λ _. record {
-        within = within_more old.heard x.sender inside a.within;
+        within = set_laws.within_more old.heard x.sender inside a.within;
         noted = λ r q g. (rw e at (a.noted r q g)) ∙ same_note x.round r (t.rounds p) q x.sender (now ∙ at.round) old.heard inside (a.silent fresh);
         marked = λ q m. elim (cases_eq q x.sender) [
           | inl eq ↦ rw (eq, cell_written w.letters w.n p x.sender l.0 hx letters (omega arith)) (rw (l.1, now ∙ at.round) at b)
-          | inr eq ↦ absurd (false≢true (sym (a.silent fresh q) ∙ sym (contains_old old.heard x.sender inside q eq) ∙ m))
+          | inr eq ↦ absurd (false≢true (sym (a.silent fresh q) ∙ sym (set_laws.contains_old old.heard x.sender inside q eq) ∙ m))
         ];
         holding = λ y z. absurd (none_some z);
         ahead = λ y z. absurd (none_some z);

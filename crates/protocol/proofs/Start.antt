@@ -4,7 +4,7 @@ use native.Mathlib.Nat.{sub-zero}
 use Rattle.std.proofs.lemmas.List.{get_or-replicate}
 use Rattle.std.proofs.lemmas.Bool.{or_parts, ltb-false, eqb-false, false≢true, and_right, or_from}
 use Rattle.stations.specs.declared.TheConstants.{STATIONS}
-use Rattle.stations.proofs.Members.{contains_none}
+use Rattle.stations.proofs.Laws.{set_laws}
 use Rattle.rules.specs.Rule.{Behaviour, Interface, lockstep}
 use Rattle.protocol.specs.Records.{blank}
 use Rattle.protocol.specs.World.{World, station}
@@ -47,12 +47,12 @@ module _ {S L : Type 0} (R : Behaviour S L) (face : Interface R) (w : World S L)
         state = x_is;
         live = λ up. record {
           within = omega arith;
-          noted = λ r q i. rw (contains_none q) (sym (or_from (eqb r 0 && false) false (and_right (eqb r 0) false refl) refl));
-          marked = λ q m. absurd (false≢true (sym (contains_none q) ∙ m));
+          noted = λ r q i. rw (set_laws.contains_none q) (sym (or_from (eqb r 0 && false) false (and_right (eqb r 0) false refl) refl));
+          marked = λ q m. absurd (false≢true (sym (set_laws.contains_none q) ∙ m));
           holding = λ h e. absurd (none_some e);
           ahead = λ h e. absurd (none_some e);
           later = λ f h e. absurd (none_some e);
-          silent = λ f q. contains_none q;
+          silent = λ f q. set_laws.contains_none q;
         };
       })
 

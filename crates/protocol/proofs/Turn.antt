@@ -10,7 +10,7 @@ use Rattle.std.proofs.lemmas.Bool.{cond-false, and_parts, and_left, and_right}
 use Rattle.rules.specs.declared.TheConstants.{LAST_ROUND}
 use Rattle.lists.specs.Lists.{tabulate}
 use Rattle.stations.specs.Stations.{contains, none, set_of, Within}
-use Rattle.stations.proofs.Members.{within_set, contains_none, contains_set, same_members}
+use Rattle.stations.proofs.Laws.{set_laws}
 use Rattle.rules.specs.Rule.{Behaviour, Heard, letter_heard, lockstep}
 use Rattle.frames.specs.Book.{entry_word}
 use Rattle.protocol.specs.declared.types.Held.{Held}
@@ -27,7 +27,8 @@ use Rattle.protocol.specs.Tally.{Tally, Triple, heard_in, tally_accepted}
 use Rattle.protocol.specs.Guarantee.{entry}
 use Rattle.lists.proofs.Tables.{tabulate_same}
 use Rattle.protocol.proofs.Words.{Whole, Among}
-use Rattle.rules.proofs.Runs.{Known, run_grows}
+use Rattle.rules.specs.Runs.{Known}
+use Rattle.rules.proofs.Runs.{run_laws}
 use Rattle.protocol.proofs.Invariant.{Inv, Live, Seat, Seated, Over, Grows, held, seat_kept, carry_kept, brought_kept, Matched, matched, Follows, attempted}
 use Rattle.protocol.proofs.Outcomes.{none_holds}
 
@@ -111,7 +112,7 @@ module _ {S L : Type 0} (R : Behaviour S L) (values : List ℕ) (t : Tally) (kno
   pub turn_grows : Grows R values H t.rounds H' (moved t.rounds p)
   turn_grows k q h = (
     omega (arith, moved_more t.rounds p q),
-    run_grows R values H H' t.rounds known (λ x y z l. heard_before t.triples new x y z (λ ep ek. let e = ap t.rounds ep in absurd (omega arith))) k q h,
+    (run_laws R).grows values H H' t.rounds known (λ x y z l. heard_before t.triples new x y z (λ ep ek. let e = ap t.rounds ep in absurd (omega arith))) k q h,
   )
 
 module _ {S L : Type 0} (R : Behaviour S L) (values : List ℕ) (B : ℕ) (w : World S L) (t : Tally) (i : Inv R values B w t)
@@ -143,7 +144,7 @@ module _ {S L : Type 0} (R : Behaviour S L) (values : List ℕ) (B : ℕ) (w : W
   heard_now q = a.noted rd q (omega arith) ∙ rw (eq-eqb rd rd refl, held_later s.hold (a.later ready) q) (or-false (contains s.heard q))
 
   heard_is : set_of (t.notes p rd) ≡ s.heard
-  heard_is = same_members (set_of (t.notes p rd)) s.heard (within_set (t.notes p rd)) a.within (λ q l. contains_set (t.notes p rd) q l ∙ heard_now q)
+  heard_is = set_laws.same_members (set_of (t.notes p rd)) s.heard (set_laws.within_set (t.notes p rd)) a.within (λ q l. set_laws.contains_set (t.notes p rd) q l ∙ heard_now q)
 
   heard_then : (q : ℕ) → Hn p rd q ≡ contains s.heard q
   heard_then q = heard_new t.rounds t.triples (new R values t i.known p) q i.over (omega arith) ∙ ap (λ x. contains x q) heard_is
@@ -201,13 +202,13 @@ module _ {S L : Type 0} (R : Behaviour S L) (values : List ℕ) (B : ℕ) (w : W
           within = omega arith;
           noted = λ r q g.
               let past : rd < r = omega (arith, rw more at g) in
-              a.noted r q (omega arith) ∙ rw (ne_eqb r rd (λ z. absurd (omega arith)), contains_none q, and_right (eqb r (moved t.rounds p p)) false refl);
-          marked = λ q m. absurd (false≢true (sym (contains_none q) ∙ m));
+              a.noted r q (omega arith) ∙ rw (ne_eqb r rd (λ z. absurd (omega arith)), set_laws.contains_none q, and_right (eqb r (moved t.rounds p p)) false refl);
+          marked = λ q m. absurd (false≢true (sym (set_laws.contains_none q) ∙ m));
           holding = λ y z. brought_kept R values (heard_in t.triples) Hn t.rounds (moved t.rounds p) grows
               (slice_get w.letters (held_cell w.n p)) y.sender y.round p (a.holding y z);
           ahead = λ y z. rw more (omega (arith, a.later ready y z));
           later = λ f. absurd (true≢false f);
-          silent = λ _ q. contains_none q;
+          silent = λ _ q. set_laws.contains_none q;
         };
       }
 
@@ -238,7 +239,7 @@ module _ {S L : Type 0} (R : Behaviour S L) (values : List ℕ) (B : ℕ) (w : W
         book_is = book_push t.triples w.book B w.entries i.book_is i.entries_are (new R values t i.known p) (entry_word p s.round s.heard) free word;
         over = over_more t.rounds (moved t.rounds p) t.triples (new R values t i.known p) (moved_more t.rounds p)
             (rw (moved_here t.rounds p) (omega arith)) i.over;
-        whole = whole_more t.triples (new R values t i.known p) at.limit (within_set (t.notes p rd)) i.whole;
+        whole = whole_more t.triples (new R values t i.known p) at.limit (set_laws.within_set (t.notes p rd)) i.whole;
         among = among_more (length values) t.triples (new R values t i.known p) h
             (λ q m. (a.marked q (sym (ap (λ x. contains x q) heard_is) ∙ m)).sender) i.among;
         known = known_then;

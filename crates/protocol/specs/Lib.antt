@@ -8,3 +8,4 @@ pub mod Calls
 pub mod Steps
 pub mod Tally
 pub mod Guarantee
+pub mod Outcomes

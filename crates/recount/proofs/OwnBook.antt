@@ -12,7 +12,7 @@ use Rattle.rules.specs.declared.TheConstants.{LAST_ROUND}
 use Rattle.rules.specs.Rule.{Behaviour, Interface, Laws, Ranges, Heard, lockstep}
 use Rattle.lists.proofs.Tables.{get_or_written}
 use Rattle.frames.specs.Book.{book_heard}
-use Rattle.frames.proofs.Sets.{zeros_after}
+use Rattle.frames.proofs.Laws.{book_laws}
 use Rattle.protocol.specs.declared.refusal.Refusal.{Refusal}
 use Rattle.protocol.specs.World.{World}
 use Rattle.protocol.specs.Refusals.{attempt}
@@ -36,7 +36,7 @@ own_heard : (ws words : List ℕ) (j more : ℕ) → words ≡ take (length ws +
 own_heard ws words j more e =
     let z = some_zeros more j in
     let is : words ≡ ws ++ replicate z.0 0 = e ∙ take-append-add ws (replicate j 0) more ∙ ap (λ xs. ws ++ xs) z.1 in
-    ap book_heard is ∙ fun_ext (λ p. fun_ext (λ k. ap contains (zeros_after ws z.0 p k ∙ sym (zeros_after ws j p k))))
+    ap book_heard is ∙ fun_ext (λ p. fun_ext (λ k. ap contains (book_laws.zeros_after ws z.0 p k ∙ sym (book_laws.zeros_after ws j p k))))
 
 -- no reason to refuse
 accepts : (most n shortest round : ℕ) → 1 ≤ n → n ≤ most → n ≤ shortest → round ≤ LAST_ROUND → run_refusal most n shortest (ltb LAST_ROUND round) ≡ None

@@ -4,10 +4,10 @@ use Rattle.lists.specs.Lists.{tabulate, written, put}
 use Rattle.stations.specs.declared.StationSet.{StationSet}
 use Rattle.stations.specs.declared.TheConstants.{STATIONS}
 use Rattle.rules.specs.Rule.{Behaviour, next_state, lockstep}
-use Rattle.rules.proofs.Runs.{next_same}
+use Rattle.rules.proofs.Runs.{run_laws}
 use Rattle.lists.proofs.Tables.{tabulate_same, put_table, take_written, get_or_written, drop_written}
 use Rattle.frames.specs.Book.{book_heard, hears, heard_sets}
-use Rattle.frames.proofs.Sets.{sets_hear}
+use Rattle.frames.proofs.Laws.{book_laws}
 use Rattle.recount.specs.Recount.{state_in, state_after, Advances, recounted}
 
 -- the states after a round of a lockstep run are those of the run at the round after it
@@ -19,7 +19,7 @@ advances R n k sets states before after e values H count heard state =
     let same : tabulate n (state_after R n k sets states) ≡ tabulate n (lockstep R values H (suc k)) =
     tabulate_same n _ _ (λ p h.
     let one : state_after R n k sets states p ≡ next_state R n p k (H p k) (lockstep R values H k) =
-    next_same R n p k (hears sets p) (H p k) (state_in R n states) (lockstep R values H k) (state p h) (λ q l. heard p q h l) (λ q l _. state q l) in
+    (run_laws R).next_same n p k (hears sets p) (H p k) (state_in R n states) (lockstep R values H k) (state p h) (λ q l. heard p q h l) (λ q l _. state q l) in
     let def : lockstep R values H (suc k) p ≡ next_state R n p k (H p k) (lockstep R values H k) =
     ap (λ m. next_state R m p k (H p k) (lockstep R values H k)) count in
     one ∙ sym def) in
@@ -48,7 +48,7 @@ module _ {S L : Type 0} (R : Behaviour S L) (values book : List ℕ) where
       front ++ drop n states ≡ recounted R values book (k + 1) cells
   unfolding Advances
   run_more k sets cells states scratch next front few before heard advanced copied =
-      let hear : (p q : ℕ) → p < n → q < n → hears sets p q ≡ book_heard book p k q = λ p q l m. rw heard (sets_hear book k p q (omega arith)) in
+      let hear : (p q : ℕ) → p < n → q < n → hears sets p q ≡ book_heard book p k q = λ p q l m. rw heard (book_laws.hear book k p q (omega arith)) in
       let state : (p : ℕ) → p < n → state_in R n states p ≡ run k p = λ p l. rw before (get_or_written n (run k) cells p (R.first n p 0) l) in
       let new : next ≡ written n (run (suc k)) scratch = advances R n k sets states scratch next advanced values (book_heard book) refl hear state in
       let ahead : front ≡ tabulate n (run (suc k)) = copied ∙ ap (take n) new ∙ take_written n (run (suc k)) scratch in

@@ -2,11 +2,12 @@
 use Rattle.std.proofs.Common.{◌≡◌, ℕ, zero, suc, ◌^◌, ◌<◌, ◌≤◌, Bool, true, T, List, length, get_or, Some, refl, ap, ◌∙◌, subst, inl, inr, arith}
 use Rattle.std.proofs.lemmas.Bool.{cases_eq, cases_Bool}
 use Rattle.rules.specs.Rule.{Behaviour, Ranges, Stable, Heard, MailFits, letter_heard, mailbox, next_state, lockstep}
+use Rattle.rules.specs.Runs.{Known, RunLaws}
 use Rattle.lists.proofs.Options.{only}
 use Rattle.lists.proofs.Tables.{tabulate_same, at_tabulate}
 
 -- the next state depends on whom the station hears below n, on its own state and on the states of those
-pub next_same :
+next_same :
     {S L : Type 0} (R : Behaviour S L) (n p k : ℕ) (heard heard' : ℕ → Bool) (state state' : ℕ → S) → state p ≡ state' p →
     ((q : ℕ) → q < n → heard q ≡ heard' q) → ((q : ℕ) → q < n → heard' q ≡ true → state q ≡ state' q) →
     next_state R n p k heard state ≡ next_state R n p k heard' state'
@@ -16,13 +17,9 @@ next_same {S} {L} R n p k heard heard' state state' own same-heard same-state =
     (elim (cases_Bool (heard' q)) [ inl t ↦ rw (same-state q l t) | inr f ↦ rw f ])) in
     ap (λ s. R.next n p k s (mailbox R n p k heard state)) own ∙ ap (R.next n p k (state' p)) letters
 
--- whom a run over H asks for a round had reached it
-abbrev pub Known : Heard → (ℕ → ℕ) → Type 0
-Known H rounds = (p k q : ℕ) → H p k q ≡ true → k ≤ rounds q
-
 module _ {S L : Type 0} (R : Behaviour S L) (values : List ℕ) where
   -- a run with more rounds agrees with the first one wherever that is over
-  pub run_grows :
+  run_grows :
       (H H' : Heard) (rounds : ℕ → ℕ) → Known H rounds → ((p k q : ℕ) → k < rounds p → H' p k q ≡ H p k q) →
       (k p : ℕ) → k ≤ rounds p → lockstep R values H' k p ≡ lockstep R values H k p
   unfolding lockstep
@@ -40,7 +37,7 @@ module _ {S L : Type 0} (R : Behaviour S L) (values : List ℕ) where
       ranges.sent_fits (length values) q k p (lockstep R values H k q) l (fits q at.0) (only (H p k q) _ l at.1).1
 
   -- every state of a run is within its ranges
-  pub run_fits :
+  run_fits :
       {fits : L → Bool} (ranges : Ranges R fits) → ((p : ℕ) → p < length values → get_or values p 0 < 2 ^ 16) → (H : Heard) (k p : ℕ) → p < length values →
       T (ranges.state_fits (lockstep R values H k p))
   unfolding lockstep
@@ -51,7 +48,7 @@ module _ {S L : Type 0} (R : Behaviour S L) (values : List ℕ) where
       (mail_fits ranges H k p (run_fits ranges small H k))
 
   -- a hull that is shown in a round is shown in every later one
-  pub hull_stays :
+  hull_stays :
       Stable R → (H : Heard) (p x : ℕ) (k m : ℕ) → k ≤ m → R.hull (lockstep R values H k p) ≡ Some x → R.hull (lockstep R values H m p) ≡ Some x
   unfolding lockstep
   hull_stays stable H p x k zero h e = let z : 0 ≡ k = omega arith in rw z e
@@ -60,3 +57,11 @@ module _ {S L : Type 0} (R : Behaviour S L) (values : List ℕ) where
     | inr z ↦ stable (length values) p m x (lockstep R values H m p) (mailbox R (length values) p m (H p m) (lockstep R values H m))
         (hull_stays stable H p x k m (omega arith) e)
   ]
+
+pub run_laws : {S L : Type 0} (R : Behaviour S L) → RunLaws R
+run_laws R = record {
+  next_same = next_same R;
+  grows = λ values. run_grows R values;
+  fits = λ values letter_fits ranges small. run_fits R values ranges small;
+  hull_stays = λ values. hull_stays R values;
+}

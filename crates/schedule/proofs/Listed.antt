@@ -14,7 +14,7 @@ use Rattle.protocol.specs.declared.TheConstants.{MAX_BOOK}
 use Rattle.protocol.specs.World.{World}
 use Rattle.protocol.specs.Steps.{step, refusals}
 use Rattle.protocol.specs.Calls.{look_refusal, look_call, sight_of}
-use Rattle.protocol.proofs.Outcomes.{was_accepted}
+use Rattle.protocol.proofs.Outcomes.{attempt_laws}
 use Rattle.protocol.specs.Guarantee.{Guarantee}
 use Rattle.shed_core.specs.declared.shed.Shed.{Shed}
 use Rattle.shed_core.specs.declared.buffers.Buffers.{Buffers}
@@ -66,7 +66,7 @@ module _ {S L : Type 0} (R : Behaviour S L) (new : World S L) (values : List ℕ
         let w : World S L = over R new values steps in
         let seen : look_call R w at.0 ≡ (Ok (sight_of R w at.0), w) = ran.guaranteed.seen at.0 at.1 in
         let fine : look_refusal R w at.0 ≡ None =
-        (was_accepted w w (sight_of R w at.0) (look_refusal R w at.0) (sight_of R w at.0) (sym (ap (λ o. o.0) seen))).0 in
+        ((attempt_laws w w (sight_of R w at.0)).accepted (look_refusal R w at.0) (sight_of R w at.0) (sym (ap (λ o. o.0) seen))).0 in
         none_some (sym fine ∙ ap (λ w. look_refusal R w at.0) (sym ran.leaves) ∙ at.2)
 
     -- no look is refused, so only memory stops it

@@ -6,7 +6,7 @@ use Rattle.rules.specs.declared.TheConstants.{LAST_ROUND}
 use Rattle.lists.proofs.Tables.{get_or_replicate_all}
 use Rattle.lists.proofs.Options.{none_some, same_some}
 use Rattle.stations.specs.Stations.{none}
-use Rattle.stations.proofs.Members.{contains_none, contains_old}
+use Rattle.stations.proofs.Laws.{set_laws}
 use Rattle.protocol.specs.declared.types.Held.{Held}
 use Rattle.protocol.specs.declared.types.Stand.TheVariants.{Fresh, Down}
 use Rattle.protocol.specs.declared.types.StationRecord.{StationRecord}
@@ -29,7 +29,7 @@ module _ (n p : ℕ) (there : p < n) (s : StationRecord) (old : Sound n p s) whe
   pub hearing_sound : n ≤ STATIONS → (q : ℕ) → q < n → Sound n p (hearing s q)
   hearing_sound few q h = record {
     round = old.round;
-    heard = λ x e. elim (cases_eq x q) [ inl is ↦ rw is h | inr other ↦ old.heard x (sym (contains_old s.heard q (omega arith) x other) ∙ e) ];
+    heard = λ x e. elim (cases_eq x q) [ inl is ↦ rw is h | inr other ↦ old.heard x (sym (set_laws.contains_old s.heard q (omega arith) x other) ∙ e) ];
     holder = old.holder;
     holding = old.holding;
     past = λ l. absurd (omega arith);
@@ -56,7 +56,7 @@ module _ (n p : ℕ) (there : p < n) (s : StationRecord) (old : Sound n p s) whe
   pub turned_sound : (s.round ≡ LAST_ROUND → ⊥) → Sound n p (record s { round = s.round + 1; stand = Fresh; heard = none })
   turned_sound more = record {
     round = omega (arith, old.round);
-    heard = λ q e. absurd (false≢true (sym (contains_none q) ∙ e));
+    heard = λ q e. absurd (false≢true (sym (set_laws.contains_none q) ∙ e));
     holder = old.holder;
     holding = old.holding;
     past = λ l. absurd (omega arith);
@@ -66,7 +66,7 @@ module _ (n p : ℕ) (there : p < n) (s : StationRecord) (old : Sound n p s) whe
 blank_sound : (n p : ℕ) → Sound n p blank
 blank_sound n p = record {
   round = omega arith;
-  heard = λ q e. absurd (false≢true (sym (contains_none q) ∙ e));
+  heard = λ q e. absurd (false≢true (sym (set_laws.contains_none q) ∙ e));
   holder = λ h e. none_some e;
   holding = λ h e. none_some e;
   past = λ l. refl;
