@@ -25,7 +25,8 @@ module _ {S L : Type 0} (R : Behaviour S L) (values : List ℕ) (steps : List St
   -- a refused opening leaves everything as it was
   pub halted : (f : Refusal) (outcomes : List (Option Refusal)) → r ≡ Err f → Conducted R values steps (shut_with b) outcomes (Err f) b' outcomes
   halted f outcomes e =
-      let d = (attempt_laws (shut_with b) (opened R (shut_with b) values) (length values)).refused (open_refusal R (shut_with b) values) f (sym e ∙ call.answers) in
+      let d = (attempt_laws (shut_with b) (opened R (shut_with b) values) (length values)).refused (open_refusal R (shut_with b) values) f
+      (sym e ∙ call.answers) in
       let same : world_of s b' ≡ shut_with b = call.leaves ∙ d.1 in
       record {
         because = d.0;
@@ -45,7 +46,8 @@ module _ {S L : Type 0} (R : Behaviour S L) (values : List ℕ) (steps : List St
       world_of t left ≡ after R (world_of s b') steps → told ≡ put blank 0 (refusals R (world_of s b') steps) →
       CarriedOut R values steps (shut_with b) blank t left told
   carried_out {letter_fits} face laws ranges small y t left blank told e ends tells =
-      let d = (attempt_laws (shut_with b) (opened R (shut_with b) values) (length values)).accepted (open_refusal R (shut_with b) values) y (sym e ∙ call.answers) in
+      let d = (attempt_laws (shut_with b) (opened R (shut_with b) values) (length values)).accepted (open_refusal R (shut_with b) values) y
+      (sym e ∙ call.answers) in
       let first = opened R (shut_with b) values in
       let same : world_of s b' ≡ first = call.leaves ∙ d.2 in
       record {

@@ -188,7 +188,8 @@ module _ {S L : Type 0} (R : Behaviour S L) (values : List ℕ) (few : length va
       let d = held_for_some old.hold old.round q e in
       subst (λ y. Inv R values B (inner y) t) d.2 (inwards d.0 d.1 d.3)
 
-module _ {S L : Type 0} (R : Behaviour S L) (values : List ℕ) (few : length values ≤ STATIONS) (B : ℕ) (w : World S L) (t : Tally) (i : Inv R values B w t) where
+module _ {S L : Type 0} (R : Behaviour S L) (values : List ℕ) (few : length values ≤ STATIONS) (B : ℕ) (w : World S L) (t : Tally)
+    (i : Inv R values B w t) where
   pub sends : (p : ℕ) → Follows R values B (step R w (Send p)).0 (step R w (Send p)).1 t (tally_accepted R values t (Send p))
   unfolding step tally_accepted
   sends p = attempted R values B w (sent R w p) (send_refusal R w p) (length (frames_of R w p)) t (tally_accepted R values t (Send p)) i (λ fine.

@@ -144,7 +144,8 @@ module _ {S L : Type 0} (R : Behaviour S L) (values : List ℕ) (B : ℕ) (w : W
   heard_now q = a.noted rd q (omega arith) ∙ rw (eq-eqb rd rd refl, held_later s.hold (a.later ready) q) (or-false (contains s.heard q))
 
   heard_is : set_of (t.notes p rd) ≡ s.heard
-  heard_is = set_laws.same_members (set_of (t.notes p rd)) s.heard (set_laws.within_set (t.notes p rd)) a.within (λ q l. set_laws.contains_set (t.notes p rd) q l ∙ heard_now q)
+  heard_is = set_laws.same_members (set_of (t.notes p rd)) s.heard (set_laws.within_set (t.notes p rd)) a.within
+      (λ q l. set_laws.contains_set (t.notes p rd) q l ∙ heard_now q)
 
   heard_then : (q : ℕ) → Hn p rd q ≡ contains s.heard q
   heard_then q = heard_new t.rounds t.triples (new R values t i.known p) q i.over (omega arith) ∙ ap (λ x. contains x q) heard_is
@@ -202,7 +203,11 @@ module _ {S L : Type 0} (R : Behaviour S L) (values : List ℕ) (B : ℕ) (w : W
           within = omega arith;
           noted = λ r q g.
               let past : rd < r = omega (arith, rw more at g) in
-              a.noted r q (omega arith) ∙ rw (ne_eqb r rd (λ z. absurd (omega arith)), set_laws.contains_none q, and_right (eqb r (moved t.rounds p p)) false refl);
+              a.noted r q (omega arith) ∙ rw (
+                ne_eqb r rd (λ z. absurd (omega arith)),
+                set_laws.contains_none q,
+                and_right (eqb r (moved t.rounds p p)) false refl,
+              );
           marked = λ q m. absurd (false≢true (sym (set_laws.contains_none q) ∙ m));
           holding = λ y z. brought_kept R values (heard_in t.triples) Hn t.rounds (moved t.rounds p) grows
               (slice_get w.letters (held_cell w.n p)) y.sender y.round p (a.holding y z);

@@ -53,7 +53,8 @@ unpacked = stamped_letter 300 1024 ∷ None ∷ []
 
 pub record LastExamples : Type 0 where
   pub rounds :
-      last_hears (stamped_letter 5 0 ∷ stamped_letter 6 0 ∷ None ∷ None ∷ []) ∷ last_hears (stamped_letter 5 0 ∷ stamped_letter 6 0 ∷ None ∷ stamped_letter 7 0 ∷ []) ∷
+      last_hears (stamped_letter 5 0 ∷ stamped_letter 6 0 ∷ None ∷ None ∷ []) ∷ last_hears
+      (stamped_letter 5 0 ∷ stamped_letter 6 0 ∷ None ∷ stamped_letter 7 0 ∷ []) ∷
       last_hears (stamped_letter 300 1 ∷ stamped_letter 200 2 ∷ stamped_letter 100 2 ∷ None ∷ []) ∷ [] ≡ last_states
   -- whatever two or three letters they are, and whatever the state
   pub any_two_of_four : (s : LastState) (m : List (Option LastLetter)) → length m ≡ 4 → last_heard m ≡ 2 → last.next 4 0 0 s m ≡ s
