@@ -1,12 +1,13 @@
 //! The states of all stations after a round of the lockstep run, from those before it.
-ghost use Rattle.std.specs.Prelude.{◌≡◌, ◌<◌, ◌≤◌, if◌then◌else◌, length, nat_lt, take, None};
+ghost use Rattle.std.specs.Prelude.{◌≡◌, ◌<◌, ◌≤◌, length, take};
 ghost use Rattle.lists.specs.Lists.{tabulate, written};
 ghost use Rattle.stations.specs.declared.TheConstants.{STATIONS};
-ghost use Rattle.recount.specs.Recount.{letter_in, state_after};
+ghost use Rattle.stations.specs.Stations.{contains};
+ghost use Rattle.rules.specs.Rule.{letter_heard};
+ghost use Rattle.recount.specs.Recount.{letter_in, state_in, state_after};
 
 use rules::Rule;
 use stations::{STATIONS, StationSet};
-use std::array;
 
 /// A round of n stations: whom each of them hears in it, and all states before it.
 #[derive(Drop)]
@@ -20,37 +21,48 @@ pub struct LockstepRound<'a, R: Rule> {
     ghost there: { n ≤ length states.now },
 }
 
+// The letter that the receiver hears from a sender in a round, or none.
+fn letter<R: Rule>(
+    rule: &R,
+    n: usize,
+    round: u16,
+    heard: StationSet,
+    states: &[R::State],
+    sender: usize,
+    receiver: usize,
+) -> Option<R::Letter>
+    requires { (sender < n) × (n ≤ length states.now) }
+    ensures { result ≡ letter_heard (R.Rule.behaviour rule.now) n receiver round (contains heard)
+        (state_in (R.Rule.behaviour rule.now) n states.now) sender }
+{
+    if heard.contains(sender) {
+        rule.letter(n, sender, round, &states[sender], receiver)
+    } else {
+        None
+    }
+}
+
 impl<'a, R: Rule> LockstepRound<'a, R> {
-    // The letter that the receiver hears from a sender, or none.
-    fn letter(&self, sender: usize, receiver: usize) -> Option<R::Letter>
-        requires { receiver < self.now.n }
-        ensures { result ≡ (if nat_lt sender self.now.n then letter_in
-            (R.Rule.behaviour self.now.rule.now) self.now.n self.now.round self.now.heard.now self.now.states.now receiver sender else None) }
+    // Writes the letters that the receiver hears into the first n places. What the round is is read once, and not for each
+    // letter again.
+    fn hear(&self, receiver: usize, mailbox: &mut [Option<R::Letter>])
+        requires { (receiver < self.now.n) × (self.now.n ≤ length mailbox.old) }
+        ensures { take self.now.n mailbox.new ≡ tabulate self.now.n
+            (letter_in (R.Rule.behaviour self.now.rule.now) self.now.n self.now.round self.now.heard.now self.now.states.now receiver) }
     {
-        if sender < self.n && self.heard[receiver].contains(sender) {
-            self.rule
-                .letter(self.n, sender, self.round, &self.states[sender], receiver)
-        } else {
-            None
+        let (rule, n, round, states) = (self.rule, self.n, self.round, self.states);
+        let heard = self.heard[receiver];
+        for (sender, place) in mailbox[..n].iter_mut().enumerate() {
+            *place = letter(rule, n, round, heard, states, sender, receiver);
         }
     }
 
-    // The letters that the receiver hears, in the first n places of an array, which asks for no memory.
-    fn mailbox(&self, receiver: usize) -> [Option<R::Letter>; STATIONS]
-        requires { receiver < self.now.n }
-        ensures places { take self.now.n result ≡ tabulate self.now.n
-            (letter_in (R.Rule.behaviour self.now.rule.now) self.now.n self.now.round self.now.heard.now self.now.states.now receiver) }
-        ensures len { length result ≡ STATIONS }
-    {
-        array::from_fn(|sender| self.letter(sender, receiver))
-    }
-
-    // The station's state after the round.
-    fn next(&self, station: usize) -> R::State
-        requires { station < self.now.n }
+    // The station's state after the round. The mailbox is scratch.
+    fn next(&self, station: usize, mailbox: &mut [Option<R::Letter>]) -> R::State
+        requires { (station < self.now.n) × (self.now.n ≤ length mailbox.old) }
         ensures { result ≡ state_after (R.Rule.behaviour self.now.rule.now) self.now.n self.now.round self.now.heard.now self.now.states.now station }
     {
-        let mailbox = self.mailbox(station);
+        self.hear(station, mailbox);
         let letters = &mailbox[..self.n];
         self.rule.next(self.n, station, self.round, &self.states[station], letters)
     }
@@ -61,8 +73,9 @@ impl<'a, R: Rule> LockstepRound<'a, R> {
         ensures { next.new ≡ written self.now.n (state_after
             (R.Rule.behaviour self.now.rule.now) self.now.n self.now.round self.now.heard.now self.now.states.now) next.old }
     {
+        let mut mailbox = [None; STATIONS];
         for (station, cell) in next[..self.n].iter_mut().enumerate() {
-            *cell = self.next(station);
+            *cell = self.next(station, &mut mailbox);
         }
     }
 }
