@@ -82,13 +82,16 @@ fn hears_majority(n: usize, mailbox: &[Option<Letter>]) -> bool
 fn collected(n: usize, state: &State, mailbox: &[Option<Letter>]) -> State
     ensures { result ≡ collect n mailbox.now state.now }
 {
+    if !hears_majority(n, mailbox) {
+        return *state;
+    }
     match latest_letter(mailbox) {
-        Some((_, letter)) if hears_majority(n, mailbox) => State {
+        Some((_, letter)) => State {
             vote: letter.value,
             committed: true,
             ..*state
         },
-        _ => *state,
+        None => *state,
     }
 }
 
