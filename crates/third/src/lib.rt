@@ -145,10 +145,9 @@ impl Rule for Third {
     }
 
     fn unpack(&self, word: u64) -> Option<Letter> {
-        if word % (1 << 28) != 0 {
-            return None;
+        match u16::try_from(word >> 28) {
+            Ok(value) if word % (1 << 28) == 0 => Some(Letter { value }),
+            _ => None,
         }
-        let value = u16::try_from(word >> 28).ok()?;
-        Some(Letter { value })
     }
 }
