@@ -138,7 +138,7 @@ fn read_steps(heap: Global, text: &[u8]) -> Result<Vec<Step>, ReadError>
     requires { length text.now ≤ MAX_BYTES }
     ensures { ReadsSteps text.now result }
 {
-    let mut steps = Vec::with_capacity(heap, text.len() / (SHORTEST_STEP + 1))?;
+    let mut steps = Vec::new(heap);
     let mut rest = text;
     while let Some((step, later)) = next_step(rest) {
         steps.push(step)?;
