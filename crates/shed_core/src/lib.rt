@@ -5,4 +5,4 @@ pub mod buffers;
 mod cells;
 mod rows;
 pub mod shed;
-mod table;
+pub mod table;
