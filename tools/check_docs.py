@@ -21,7 +21,7 @@ import sys
 
 PAGES = [pathlib.Path("README.md"), *sorted(pathlib.Path("docs").glob("*.md")), pathlib.Path("examples/README.md"), pathlib.Path("peer/README.md")]
 # Pages on what was: their names are those of that time.
-HISTORY = {"PORT.md", "DESIGN-PASS.md"}
+HISTORY = {"PORT.md", "DESIGN-PASS.md", "LOOK-BACK.md"}
 # What a build, or whoever follows a page, makes.
 MADE = ("crates/my_program", "crates/shed/out", "crates/peer_bridge/out", "target/")
 # Names of the kit, of Rust and of the pages' own examples that stand in no file of ours.
